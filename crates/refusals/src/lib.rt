@@ -1,0 +1,28 @@
+ghost use mathlib.Core.Path.{_≡_};
+ghost use Rattle.refusals.specs.Numbers.{numberOf};
+use std::fmt;
+
+pub mod refusal;
+
+use refusal::Refusal;
+
+impl Refusal {
+    // The number of the reason, as the restore notes have it. An accepted call has the number 0.
+    pub fn number(self) -> u8
+        ensures { λ r. ⌜ r ≡ numberOf self ⌝ }
+    {
+        self as u8
+    }
+}
+
+pub impl fmt::Display for Refusal as RefusalDisplay {
+    fn fmt<W: fmt::Write>(&self, f: &mut fmt::Formatter<W>) -> fmt::Result {
+        let number = self.number();
+        let reason = match self {
+            Refusal::WordOutside => "the word lies outside the storage",
+            Refusal::MaskTooWide => "the mask has more than four bits",
+            Refusal::NotADirectory => "the list of pages is not a directory",
+        };
+        write!(f, "refusal {number}, {reason}")
+    }
+}

@@ -1,0 +1,7 @@
+pub mod Words
+pub mod Lent
+pub mod Bytes
+pub mod Ram
+pub mod Dump
+pub mod Interleaved
+pub mod Stacked

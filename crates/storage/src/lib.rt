@@ -1,0 +1,7 @@
+pub mod bytes;
+pub mod directory;
+pub mod dump;
+pub mod interleaved;
+pub mod ram;
+pub mod stacked;
+pub mod words;
