@@ -19,6 +19,12 @@ pub impl fmt::Display for Refusal as RefusalDisplay {
     fn fmt<W: fmt::Write>(&self, f: &mut fmt::Formatter<W>) -> fmt::Result {
         let number = self.number();
         let reason = match self {
+            Refusal::ExponentOutside => "the size exponent is outside 16 to 24",
+            Refusal::BaseTooHigh => "the base number is above the page form's highest",
+            Refusal::SizeDiffers => "the storage is not as long as the plan says",
+            Refusal::ValueTooWide => "the value is too wide to be stored",
+            Refusal::RealAddressOutside => "the real address lies outside the storage",
+            Refusal::PageMarkOutside => "the page lies outside the storage",
             Refusal::WordOutside => "the word lies outside the storage",
             Refusal::MaskTooWide => "the mask has more than four bits",
             Refusal::NotADirectory => "the list of pages is not a directory",

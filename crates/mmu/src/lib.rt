@@ -1,0 +1,9 @@
+pub mod answer;
+pub mod faults;
+pub mod lanes;
+pub mod marks;
+pub mod power;
+pub mod real;
+pub mod state;
+pub mod unit;
+pub mod width;

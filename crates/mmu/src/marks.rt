@@ -1,0 +1,52 @@
+ghost use mathlib.Core.Path.{_≡_};
+ghost use Prim.Native.Nat.{_<_};
+ghost use Rattle.mmu.specs.Real.{usedPage};
+ghost use Rattle.mmu.specs.Real.{markRefusal, passed, noMark, unless, unmarkedPage};
+ghost use lib.ListN.{getD};
+use crate::state::PageMark;
+use crate::state::UnitState;
+use crate::unit::MemoryUnit;
+use paging::form::PageForm;
+use refusals::refusal::Refusal;
+
+impl UnitState {
+    // Marks a page as used, and as changed too by a store.
+    pub(crate) fn use_page(&mut self, page: u32, store: bool)
+        requires { ⌜ page < 8192 ⌝ }
+        ensures { λ _. ⌜ now (self .exit) ≡ usedPage (now (self .entry)) page store ⌝ }
+    {
+        let mark = &mut self.marks[page as usize];
+        mark.referenced = true;
+        if store {
+            mark.changed = true;
+        }
+    }
+}
+
+impl<F: PageForm> MemoryUnit<F> {
+    // The marks of a real page.
+    pub fn page_mark(&self, page: u32) -> Result<PageMark, Refusal>
+        ensures { λ r. ⌜ r ≡ passed (markRefusal (F·PageForm .sizes) (now (self .entry) .plan .exponent) page) (getD (now (self .entry) .state .marks) page noMark) ⌝ }
+    {
+        if page >= self.plan.page_count() {
+            return Err(Refusal::PageMarkOutside);
+        }
+        Ok(self.state.marks[page as usize])
+    }
+
+    // Clears both marks of a real page.
+    pub fn clear_page_mark(&mut self, page: u32) -> Result<(), Refusal>
+        ensures answer { λ r. ⌜ r ≡ passed (markRefusal (F·PageForm .sizes) (now (self .entry) .plan .exponent) page) tt ⌝ }
+        ensures state { λ _. ⌜ now (self .exit) .state ≡ unless (markRefusal (F·PageForm .sizes) (now (self .entry) .plan .exponent) page) (now (self .entry) .state) (unmarkedPage (now (self .entry) .state) page) ⌝ }
+        ensures plan { λ _. ⌜ now (self .exit) .plan ≡ now (self .entry) .plan ⌝ }
+    {
+        if page >= self.plan.page_count() {
+            return Err(Refusal::PageMarkOutside);
+        }
+        self.state.marks[page as usize] = PageMark {
+            referenced: false,
+            changed: false,
+        };
+        Ok(())
+    }
+}

@@ -1,0 +1,10 @@
+use borrow.Author.Needs.{needs}
+use Rattle.paging.proofs.Pages.{table-inside}
+use Rattle.paging.proofs.plan.SettledPlan.table.Needs as need
+
+pub returns : need.returns
+returns g c =
+    let form = g .F·PageForm·met in
+    let plan = c .args .self .now in
+    let inside = table-inside (g .F·PageForm .sizes) (plan .exponent) (g .F·PageForm .base (plan .base)) (form .bases) (form .low (plan .base)) in
+    search needs
