@@ -5,9 +5,12 @@ ghost use lib.Dec.{ltb};
 ghost use lib.ListN.{length};
 ghost use Rattle.std.specs.declared.result.Result.the-variants.{Ok, Err};
 ghost use Rattle.refusals.specs.declared.refusal.Refusal.the-variants.{WordOutside};
-ghost use Rattle.mmu.specs.Lanes.{valueLimit, shiftOf, maskOf, stored};
+ghost use Rattle.mmu.specs.Lanes.{valueLimit, shiftOf, maskOf, loaded, stored};
+ghost use Rattle.mmu.specs.Bytes.{LoadedBytes, StoredBytes};
+ghost use Rattle.std.specs.Vec.{made};
 use crate::width::Width;
 use refusals::refusal::Refusal;
+use storage::words::ReadStorage;
 use storage::words::Storage;
 
 impl Width {
@@ -46,7 +49,7 @@ impl Width {
     }
 
     // The unit at an address, out of its word.
-    pub fn take(self, address: u32, word: u32) -> u32
+    fn take(self, address: u32, word: u32) -> u32
         ensures { λ r. ⌜ r ≡ word / 2 ^ shiftOf self address % valueLimit self ⌝ }
     {
         let unit = word >> self.shift(address);
@@ -66,6 +69,19 @@ impl Width {
     }
 }
 
+// Loads from the word that the address lies in.
+pub(crate) fn load_unit<S: ReadStorage>(
+    storage: &S,
+    address: u32,
+    width: Width,
+) -> Result<u32, Refusal>
+    ensures answer { λ r. ⌜ r ≡ cond (ltb (address / 4) (length (S·ReadStorage .words (now (storage .entry))))) (Ok (loaded (S·ReadStorage .words (now (storage .entry))) width address)) (Err WordOutside) ⌝ }
+    ensures bytes { λ r. ⌜ made r (λ v. LoadedBytes (S·ReadStorage .words (now (storage .entry))) width address v) ⌝ }
+{
+    let word = storage.read(address / 4)?;
+    Ok(width.take(address, word))
+}
+
 // Stores a value that fits its width, in the word that the address lies in.
 pub(crate) fn store_unit<S: Storage>(
     storage: &mut S,
@@ -76,6 +92,7 @@ pub(crate) fn store_unit<S: Storage>(
     requires { ⌜ value < valueLimit width ⌝ }
     ensures answer { λ r. ⌜ r ≡ cond (ltb (address / 4) (length (S·ReadStorage .words (now (storage .entry))))) (Ok tt) (Err WordOutside) ⌝ }
     ensures words { λ _. ⌜ S·ReadStorage .words (now (storage .exit)) ≡ stored (S·ReadStorage .words (now (storage .entry))) width address value ⌝ }
+    ensures bytes { λ _. ⌜ StoredBytes (S·ReadStorage .words (now (storage .entry))) (S·ReadStorage .words (now (storage .exit))) width address value ⌝ }
     ensures lenders { λ _. ⌜ S·Storage .lenders (now (storage .exit)) ≡ S·Storage .lenders (now (storage .entry)) ⌝ }
 {
     storage.write(

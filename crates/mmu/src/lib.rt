@@ -1,5 +1,5 @@
 pub mod answer;
-pub mod faults;
+pub mod answers;
 pub mod lanes;
 pub mod marks;
 pub mod power;

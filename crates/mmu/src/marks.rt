@@ -1,8 +1,7 @@
 ghost use mathlib.Core.Path.{_≡_};
 ghost use Prim.Native.Nat.{_<_};
-ghost use Rattle.mmu.specs.Real.{usedPage};
-ghost use Rattle.mmu.specs.Real.{markRefusal, passed, noMark, unless, unmarkedPage};
-ghost use lib.ListN.{getD};
+ghost use Rattle.mmu.specs.Answers.{passed, unless};
+ghost use Rattle.mmu.specs.Marks.{usedPage, clearedPage, markOf, markRefusal};
 use crate::state::PageMark;
 use crate::state::UnitState;
 use crate::unit::MemoryUnit;
@@ -26,7 +25,7 @@ impl UnitState {
 impl<F: PageForm> MemoryUnit<F> {
     // The marks of a real page.
     pub fn page_mark(&self, page: u32) -> Result<PageMark, Refusal>
-        ensures { λ r. ⌜ r ≡ passed (markRefusal (F·PageForm .sizes) (now (self .entry) .plan .exponent) page) (getD (now (self .entry) .state .marks) page noMark) ⌝ }
+        ensures { λ r. ⌜ r ≡ passed (markRefusal (F·PageForm .sizes) (now (self .entry) .plan .exponent) page) (markOf (now (self .entry) .state) page) ⌝ }
     {
         if page >= self.plan.page_count() {
             return Err(Refusal::PageMarkOutside);
@@ -37,7 +36,7 @@ impl<F: PageForm> MemoryUnit<F> {
     // Clears both marks of a real page.
     pub fn clear_page_mark(&mut self, page: u32) -> Result<(), Refusal>
         ensures answer { λ r. ⌜ r ≡ passed (markRefusal (F·PageForm .sizes) (now (self .entry) .plan .exponent) page) tt ⌝ }
-        ensures state { λ _. ⌜ now (self .exit) .state ≡ unless (markRefusal (F·PageForm .sizes) (now (self .entry) .plan .exponent) page) (now (self .entry) .state) (unmarkedPage (now (self .entry) .state) page) ⌝ }
+        ensures state { λ _. ⌜ now (self .exit) .state ≡ unless (markRefusal (F·PageForm .sizes) (now (self .entry) .plan .exponent) page) (now (self .entry) .state) (clearedPage (now (self .entry) .state) page) ⌝ }
         ensures plan { λ _. ⌜ now (self .exit) .plan ≡ now (self .entry) .plan ⌝ }
     {
         if page >= self.plan.page_count() {

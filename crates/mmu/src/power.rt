@@ -1,5 +1,5 @@
 ghost use mathlib.Core.Path.{_≡_};
-ghost use Rattle.mmu.specs.Real.{poweredOn};
+ghost use Rattle.mmu.specs.Marks.{poweredOn};
 use crate::state::PageMark;
 use crate::state::UnitState;
 use crate::unit::MemoryUnit;

@@ -3,10 +3,14 @@ ghost use Prim.Native.Nat.{_*_, _<_, _≤_};
 ghost use lib.ListN.{length};
 ghost use Rattle.std.specs.Vec.{made};
 ghost use Rattle.paging.specs.Address.{pageOf};
-ghost use Rattle.mmu.specs.Real.{passed, loadRefusal, realLoad, afterRealLoad, realStore, afterRealStore, realStored};
+ghost use Rattle.mmu.specs.Answers.{passed};
+ghost use Rattle.mmu.specs.Bytes.{LoadedBytes, StoredBytes};
+ghost use Rattle.mmu.specs.Real.{loadRefusal, realLoad, afterRealLoad, realStore, afterRealStore, realStored};
 use crate::answer::Access;
 use crate::answer::Fault;
-use crate::faults::FaultFromRefusal;
+use crate::answers::Answer;
+use crate::answers::FaultFromRefusal;
+use crate::lanes::load_unit;
 use crate::lanes::store_unit;
 use crate::unit::MemoryUnit;
 use crate::width::Width;
@@ -38,16 +42,17 @@ impl<F: PageForm> MemoryUnit<F> {
         storage: &S,
         address: RealAddress,
         width: Width,
-    ) -> Result<Access, Fault>
+    ) -> Answer
         ensures answer { λ r. ⌜ r ≡ realLoad (now (self .entry) .plan .exponent) (S·ReadStorage .words (now (storage .entry))) width (address .number) ⌝ }
         ensures state { λ _. ⌜ now (self .exit) .state ≡ afterRealLoad (F·PageForm .sizes) (now (self .entry) .plan .exponent) (S·ReadStorage .words (now (storage .entry))) (address .number) (now (self .entry) .state) ⌝ }
         ensures plan { λ _. ⌜ now (self .exit) .plan ≡ now (self .entry) .plan ⌝ }
+        ensures bytes { λ r. ⌜ made r (λ a. LoadedBytes (S·ReadStorage .words (now (storage .entry))) width (address .number) (a .value)) ⌝ }
     {
         let page = self.real_page(storage, address)?;
-        let word = storage.read(address.number / 4)?;
+        let value = load_unit(storage, address.number, width)?;
         self.state.use_page(page, false);
         Ok(Access {
-            value: width.take(address.number, word),
+            value,
             compared: 0,
             last: None,
         })
@@ -60,11 +65,12 @@ impl<F: PageForm> MemoryUnit<F> {
         address: RealAddress,
         width: Width,
         value: u32,
-    ) -> Result<Access, Fault>
+    ) -> Answer
         ensures answer { λ r. ⌜ r ≡ realStore (now (self .entry) .plan .exponent) (S·ReadStorage .words (now (storage .entry))) width (address .number) value ⌝ }
         ensures state { λ _. ⌜ now (self .exit) .state ≡ afterRealStore (F·PageForm .sizes) (now (self .entry) .plan .exponent) (S·ReadStorage .words (now (storage .entry))) width (address .number) value (now (self .entry) .state) ⌝ }
         ensures plan { λ _. ⌜ now (self .exit) .plan ≡ now (self .entry) .plan ⌝ }
         ensures words { λ _. ⌜ S·ReadStorage .words (now (storage .exit)) ≡ realStored (now (self .entry) .plan .exponent) (S·ReadStorage .words (now (storage .entry))) width (address .number) value ⌝ }
+        ensures bytes { λ r. ⌜ made r (λ _. StoredBytes (S·ReadStorage .words (now (storage .entry))) (S·ReadStorage .words (now (storage .exit))) width (address .number) value) ⌝ }
         ensures lenders { λ _. ⌜ S·Storage .lenders (now (storage .exit)) ≡ S·Storage .lenders (now (storage .entry)) ⌝ }
     {
         if !width.holds(value) {

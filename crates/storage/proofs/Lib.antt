@@ -4,3 +4,4 @@ pub mod Stores
 pub mod Pairs
 pub mod Directories
 pub mod Dumps
+pub mod Copies

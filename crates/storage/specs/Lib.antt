@@ -5,3 +5,4 @@ pub mod Ram
 pub mod Dump
 pub mod Interleaved
 pub mod Stacked
+pub mod Copy

@@ -1,4 +1,5 @@
 pub mod bytes;
+pub mod copy;
 pub mod directory;
 pub mod dump;
 pub mod interleaved;
