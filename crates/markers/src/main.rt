@@ -1,25 +1,194 @@
+ghost use mathlib.Core.Path.{_≡_};
+ghost use mathlib.Core.Bool.{true};
+ghost use Rattle.std.specs.Of.Vec.{vec-items};
+ghost use Rattle.std.specs.Vec.{made};
+
+mod agreement;
+mod boards;
+mod check;
+mod image;
+mod marker;
+mod report;
+mod survey;
+mod trouble;
+
+use agreement::agree;
+use boards::IMAGE_BYTES;
+use boards::on_dump_board;
+use boards::on_interleaved_banks;
+use boards::on_ram_board;
+use boards::on_stacked_banks;
+use check::Findings;
+use image::draw_all;
+use mmu::state::PageMark;
+use mmu::state::PageMarkPartialEq;
+use paging::address::RealAddress;
+use paging::draft::Draft;
+use paging::draft::RefusedDraft;
+use paging::form::Form2K;
+use paging::form::Form2KPageForm;
+use paging::form::Form4K;
+use paging::form::Form4KPageForm;
+use paging::form::PageForm;
 use refusals::RefusalDisplay;
-use refusals::refusal::Refusal;
+use report::MarkerDisplay;
+use report::PageMap;
+use report::PageMapDisplay;
 use std::error::AnyError;
 use storage::ram::RamBoard;
 use storage::ram::RamReadStorage;
 use storage::ram::RamStorage;
-use storage::words::ReadStorage;
-use storage::words::Storage;
+use survey::SITES;
+use trouble::TroubleDebug;
+use trouble::TroubleDisplay;
+use trouble::TroubleError;
 
-// Writes one coordinate, in centimetres, into an image and reads it back.
-fn kept(image: &mut [u8], word: u32, centimetres: u32) -> Result<u32, Refusal> {
-    let mut board = RamBoard::new(image);
-    board.write(word, centimetres, 15)?;
-    board.read(word)
+// Drafts a plan of 2^25 bytes, which no unit has.
+fn show_refused_plan(rt: &LibcRuntime) -> Result<(), AnyError> {
+    let draft = Draft {
+        form: Form2K,
+        exponent: 25,
+        base: 2,
+    };
+    match draft.settle() {
+        Ok(_plan) => println!(rt, "A plan of 2^25 bytes is settled.")?,
+        Err(refused) => {
+            let RefusedDraft { draft, refusal } = refused;
+            let exponent = draft.exponent;
+            let base = draft.base;
+            println!(rt, "A plan of 2^25 bytes is not settled: {refusal}.")?;
+            println!(
+                rt,
+                "Its draft comes back as it was: exponent {exponent}, base {base}."
+            )?;
+        }
+    }
+    Ok(())
+}
+
+// The plan of the trial restore.
+fn plan_of<F>(form: F) -> Draft<F>
+    ensures { λ r. ⌜ r ≡ record { form = form; exponent = 16; base = 2 } ⌝ }
+{
+    Draft {
+        form,
+        exponent: 16,
+        base: 2,
+    }
+}
+
+fn show_plan<F: PageForm + Drop>(rt: &LibcRuntime, form: F) -> Result<(), AnyError> {
+    let page = F::geometry().page;
+    match plan_of(form).settle() {
+        Ok(plan) => {
+            let pages = plan.page_count();
+            let table = plan.table();
+            let start = table.start.number;
+            let entries = table.entries;
+            println!(
+                rt,
+                "A plan of 2^16 bytes in pages of {page} is settled: {pages} pages, {entries} table entries from byte {start}."
+            )?;
+        }
+        Err(refused) => {
+            let refusal = refused.refusal;
+            println!(
+                rt,
+                "A plan of 2^16 bytes in pages of {page} is not settled: {refusal}."
+            )?;
+        }
+    }
+    Ok(())
+}
+
+// Prints each marker with the page that its coordinates came from, and the pages that the check went through.
+fn show_findings<F: PageForm>(
+    rt: &LibcRuntime,
+    board: &str,
+    found: &Findings,
+) -> Result<(), AnyError> {
+    println!(rt, "{board}:")?;
+    for (site, marker) in SITES.iter().zip(&found.markers) {
+        let coordinates = RealAddress {
+            number: u32::from(site.address) + 8,
+        };
+        let page = coordinates.page::<F>();
+        println!(rt, "  page {page:2}  {marker}")?;
+    }
+    let map = PageMap {
+        pages: &found.pages,
+    };
+    println!(rt, "  pages read (r), written (w), not used (.): {map}")?;
+    Ok(())
+}
+
+// Says whether a board has the markers and the pages that the RAM board has.
+fn compare(
+    rt: &LibcRuntime,
+    board: &str,
+    ram: &Findings,
+    found: &Findings,
+) -> Result<bool, AnyError>
+    ensures { λ r. ⌜ made r (λ same. (same ≡ true → vec-items (now (ram .entry) .markers) ≡ vec-items (now (found .entry) .markers))) ⌝ }
+{
+    let same_markers = agree(&ram.markers, &found.markers);
+    if !same_markers {
+        println!(rt, "{board}: the markers are not those of the RAM board.")?;
+        return Ok(false);
+    }
+    if ram.pages.as_slice() != found.pages.as_slice() {
+        println!(
+            rt,
+            "{board}: the markers are those of the RAM board, the pages are not."
+        )?;
+        return Ok(false);
+    }
+    println!(rt, "{board}: the same markers from the same pages.")?;
+    Ok(true)
+}
+
+// Checks the image on all four boards under one page form.
+fn check_boards<F: PageForm + Copy>(
+    rt: &LibcRuntime,
+    form: F,
+    image: &mut [u8],
+) -> Result<(), AnyError> {
+    let heap = rt.alloc();
+    show_plan(rt, form)?;
+    let ram = on_ram_board(heap, plan_of(form), image, &SITES)?;
+    show_findings::<F>(rt, "Markers on the RAM board", &ram)?;
+    let interleaved = on_interleaved_banks(heap, plan_of(form), image, &SITES)?;
+    let first = compare(rt, "Two interleaved banks", &ram, &interleaved)?;
+    let stacked = on_stacked_banks(heap, plan_of(form), image, &SITES)?;
+    let second = compare(rt, "Two stacked banks", &ram, &stacked)?;
+    let dump = on_dump_board(heap, plan_of(form), image, &SITES)?;
+    let third = compare(rt, "A dump with shuffled blocks", &ram, &dump)?;
+    if first && second && third {
+        println!(rt, "The four boards agree.")?;
+    } else {
+        println!(
+            rt,
+            "The four boards do not agree: do not rely on these coordinates."
+        )?;
+    }
+    Ok(())
+}
+
+fn run(rt: &LibcRuntime) -> Result<(), AnyError> {
+    let mut image = vec![in rt.alloc(); 0u8; IMAGE_BYTES]?;
+    let mut board = RamBoard::new(&mut image);
+    match draw_all(&mut board, &SITES) {
+        Ok(()) => println!(
+            rt,
+            "An image of {IMAGE_BYTES} bytes with twelve survey markers."
+        )?,
+        Err(refusal) => println!(rt, "The image has no room for the markers: {refusal}.")?,
+    }
+    show_refused_plan(rt)?;
+    check_boards(rt, Form2K, &mut image)?;
+    check_boards(rt, Form4K, &mut image)
 }
 
 fn main(rt: LibcRuntime) -> Result<(), AnyError> {
-    let mut image = vec![in rt.alloc(); 0u8; 65536]?;
-    println!(rt, "An image of 64 KiB on a RAM board.")?;
-    match kept(&mut image, 4609, 348211725) {
-        Ok(easting) => println!(rt, "The easting at word 4609 is {easting} cm.")?,
-        Err(refusal) => println!(rt, "The easting at word 4609 cannot be read: {refusal}.")?,
-    }
-    Ok(())
+    rt.report(run(&rt))
 }

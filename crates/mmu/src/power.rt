@@ -25,6 +25,13 @@ impl<F: PageForm> MemoryUnit<F> {
         }
     }
 
+    // The plan that the unit was powered on from.
+    pub fn plan(&self) -> &SettledPlan<F>
+        ensures { λ r. ⌜ now r ≡ now (self .entry) .plan ⌝ }
+    {
+        &self.plan
+    }
+
     // Ends the use of the unit, and gives its plan back as a draft.
     pub fn end(self) -> Draft<F>
         ensures { λ r. ⌜ (r .form ≡ self .plan .form) × (r .exponent ≡ self .plan .exponent) × (r .base ≡ F·PageForm .base (self .plan .base)) ⌝ }
