@@ -4,16 +4,17 @@ use mathlib.Core.Logic.{⊎-elim}
 use mathlib.Core.List.{List, [], _∷_, _++_, map}
 use Prim.Native.Nat.{ℕ, _+_, _<_, _≤_}
 use native.Mathlib.Omega.{arith}
-use lib.ListN.{length, getD, take}
-use Rattle.std.proofs.shelf.Lists.{map-more, map-push, getD-append-left, getD-push, length-push}
+use lib.ListN.{length, getD, take, drop}
+use Rattle.std.proofs.shelf.Lists.{map-more, map-push, getD-append-left, getD-push, length-push, at-drop-more, at-drop-all}
 use Rattle.std.proofs.shelf.Tests.{cases-eq}
 use Rattle.std.specs.declared.result.Result.the-variants.{Ok, Err}
+use Rattle.paging.specs.declared.geometry.PageGeometry.{PageGeometry}
 use Rattle.mmu.specs.declared.state.PageMark.{PageMark}
 use Rattle.mmu.specs.declared.state.UnitState.{UnitState}
 use Rattle.mmu.specs.Marks.{noMark, markOf}
 use Rattle.markers.specs.declared.marker.Marker.{Marker}
 use Rattle.markers.specs.declared.marker.Site.{Site}
-use Rattle.markers.specs.Markers.{markerRead, AllRead, AllMarks}
+use Rattle.markers.specs.Markers.{markerRead, markerUsed, sitesUsed, AllRead, AllMarks}
 
 -- what stands past the end of a list of sites
 abbrev pub noSite : Site
@@ -32,6 +33,27 @@ read-more k ws sites i d before after m h read here pushed =
     ∙ ap (λ r. map (λ m. Ok m) before ++ r ∷ []) (sym here)
     ∙ sym (map-push (λ m. Ok m) before m)
     ∙ ap (map (λ m. Ok m)) (sym pushed)
+
+-- One turn more, and the last: what is left to read gives the marks that the whole gives.
+pub used-more :
+    (f : PageGeometry) (k : ℕ) (ws : List ℕ) (start s t : UnitState) (sites : List Site) (i : ℕ) (d : Site) →
+    i < length sites →
+    sitesUsed f k ws s (drop i sites) ≡ sitesUsed f k ws start sites →
+    t ≡ markerUsed f k ws (getD sites i d .address) s →
+    sitesUsed f k ws t (drop (i + 1) sites) ≡ sitesUsed f k ws start sites
+unfolding sitesUsed
+used-more f k ws start s t sites i d h so-far here =
+    ap (λ (x : UnitState). sitesUsed f k ws x (drop (i + 1) sites)) here
+    ∙ sym (at-drop-more (sitesUsed f k ws s) sites i d h)
+    ∙ so-far
+
+pub used-all :
+    (f : PageGeometry) (k : ℕ) (ws : List ℕ) (start s : UnitState) (sites : List Site) (i : ℕ) →
+    length sites ≤ i →
+    sitesUsed f k ws s (drop i sites) ≡ sitesUsed f k ws start sites →
+    s ≡ sitesUsed f k ws start sites
+unfolding sitesUsed
+used-all f k ws start s sites i h so-far = sym (at-drop-all (sitesUsed f k ws s) sites i h) ∙ so-far
 
 pub marks-more :
     (s : UnitState) (n : ℕ) (before after : List PageMark) (m : PageMark) →

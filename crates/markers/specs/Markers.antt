@@ -15,8 +15,13 @@ use Rattle.mmu.specs.declared.width.Width.the-variants.{Word}
 use Rattle.mmu.specs.Answers.{Answer}
 use Rattle.mmu.specs.declared.state.PageMark.{PageMark}
 use Rattle.mmu.specs.declared.state.UnitState.{UnitState}
-use Rattle.mmu.specs.Marks.{noMark, markOf}
-use Rattle.mmu.specs.Real.{realLoad}
+use Rattle.mmu.specs.Marks.{noMark, markOf, poweredOn}
+use Rattle.mmu.specs.Real.{realLoad, afterRealLoad}
+use Rattle.std.specs.Of.Vec.{vec-items}
+use Rattle.paging.specs.declared.geometry.PageGeometry.{PageGeometry}
+use Rattle.paging.specs.Plan.{pageCount}
+use Rattle.paging.specs.declared.draft.Draft.{Draft}
+use Rattle.markers.specs.declared.findings.Findings.{Findings}
 use Rattle.markers.specs.declared.marker.Marker.{Marker}
 use Rattle.markers.specs.declared.marker.Site.{Site}
 
@@ -56,6 +61,16 @@ markerRead k ws address =
     accepting (realLoad k ws Word (address + 12)) (λ northing.
     Ok (markerOf first second easting northing)))))
 
+-- the unit after those loads: each one that is accepted marks its page
+abbrev pub markerUsed : PageGeometry → ℕ → List ℕ → ℕ → UnitState → UnitState
+markerUsed f k ws address s =
+    afterRealLoad f k ws (address + 12) (afterRealLoad f k ws (address + 8) (afterRealLoad f k ws (address + 4) (afterRealLoad f k ws address s)))
+
+-- the unit after the markers at all sites were read
+unfoldable pub sitesUsed : PageGeometry → ℕ → List ℕ → UnitState → List Site → UnitState
+sitesUsed f k ws s [] = s
+sitesUsed f k ws s (site ∷ rest) = sitesUsed f k ws (markerUsed f k ws (site .address) s) rest
+
 -- the words after a marker was drawn at a real address; all four words have to be there
 abbrev pub withMarker : List ℕ → ℕ → Marker → List ℕ
 withMarker ws n m =
@@ -82,6 +97,12 @@ AllRead k ws sites markers = map (λ s. markerRead k ws (s .address)) sites ≡ 
 -- the marks of all pages
 abbrev pub AllMarks : ℕ → UnitState → List PageMark → Type 0
 AllMarks count s marks = (length marks ≡ count) × ((p : ℕ) → p < count → getD marks p noMark ≡ markOf s p)
+
+-- what a check gives: the markers at all sites, the marks that reading them leaves, and its plan back as a draft
+pub record Checked {F : Type 0} (f : PageGeometry) (draft : Draft F) (ws : List ℕ) (sites : List Site) (given : Findings × Draft F) : Type 0 where
+  pub markers : AllRead (draft .exponent) ws sites (vec-items (given .0 .markers))
+  pub pages : AllMarks (pageCount f (draft .exponent)) (sitesUsed f (draft .exponent) ws poweredOn sites) (vec-items (given .0 .pages))
+  pub back : given .1 ≡ draft
 
 -- the character of a page in the map: w for a page that was written, r for one that was read, and a full stop for the others
 abbrev pub symbolOf : PageMark → ℕ

@@ -1,10 +1,9 @@
 ghost use mathlib.Core.Path.{_≡_};
-ghost use Rattle.std.specs.Of.Vec.{vec-items};
 ghost use Rattle.std.specs.Vec.{made};
 ghost use Rattle.storage.specs.Ram.{ramWords};
-ghost use Rattle.markers.specs.Markers.{AllRead};
-use crate::check::Findings;
+ghost use Rattle.markers.specs.Markers.{Checked};
 use crate::check::check_storage;
+use crate::findings::Findings;
 use crate::marker::Site;
 use crate::trouble::Trouble;
 use crate::trouble::TroubleFromAlloc;
@@ -73,8 +72,8 @@ pub fn on_ram_board<F: PageForm + Drop>(
     draft: Draft<F>,
     image: &mut [u8],
     sites: &[Site],
-) -> Result<Findings, Trouble>
-    ensures { λ r. ⌜ made r (λ f. AllRead (draft .exponent) (ramWords (now (image .entry))) (now (sites .entry)) (vec-items (f .markers))) ⌝ }
+) -> Result<(Findings, Draft<F>), Trouble>
+    ensures { λ r. ⌜ made r (Checked (F·PageForm .sizes) draft (ramWords (now (image .entry))) (now (sites .entry))) ⌝ }
 {
     check_storage(heap, draft, &RamBoard::new(image), sites)
 }
@@ -86,8 +85,8 @@ fn on_board<F: PageForm + Drop, S: Storage>(
     image: &mut [u8],
     board: &mut S,
     sites: &[Site],
-) -> Result<Findings, Trouble>
-    ensures { λ r. ⌜ made r (λ f. AllRead (draft .exponent) (ramWords (now (image .entry))) (now (sites .entry)) (vec-items (f .markers))) ⌝ }
+) -> Result<(Findings, Draft<F>), Trouble>
+    ensures { λ r. ⌜ made r (Checked (F·PageForm .sizes) draft (ramWords (now (image .entry))) (now (sites .entry))) ⌝ }
 {
     let source = RamBoard::new(image);
     if source.count() != board.count() {
@@ -103,8 +102,8 @@ pub fn on_interleaved_banks<F: PageForm + Drop>(
     draft: Draft<F>,
     image: &mut [u8],
     sites: &[Site],
-) -> Result<Findings, Trouble>
-    ensures { λ r. ⌜ made r (λ f. AllRead (draft .exponent) (ramWords (now (image .entry))) (now (sites .entry)) (vec-items (f .markers))) ⌝ }
+) -> Result<(Findings, Draft<F>), Trouble>
+    ensures { λ r. ⌜ made r (Checked (F·PageForm .sizes) draft (ramWords (now (image .entry))) (now (sites .entry))) ⌝ }
 {
     let mut even = vec![in heap; 0u8; IMAGE_BYTES / 2]?;
     let mut odd = vec![in heap; 0u8; IMAGE_BYTES / 2]?;
@@ -118,8 +117,8 @@ pub fn on_stacked_banks<F: PageForm + Drop>(
     draft: Draft<F>,
     image: &mut [u8],
     sites: &[Site],
-) -> Result<Findings, Trouble>
-    ensures { λ r. ⌜ made r (λ f. AllRead (draft .exponent) (ramWords (now (image .entry))) (now (sites .entry)) (vec-items (f .markers))) ⌝ }
+) -> Result<(Findings, Draft<F>), Trouble>
+    ensures { λ r. ⌜ made r (Checked (F·PageForm .sizes) draft (ramWords (now (image .entry))) (now (sites .entry))) ⌝ }
 {
     let mut low = vec![in heap; 0u8; IMAGE_BYTES / 2]?;
     let mut high = vec![in heap; 0u8; IMAGE_BYTES / 2]?;
@@ -133,8 +132,8 @@ pub fn on_dump_board<F: PageForm + Drop>(
     draft: Draft<F>,
     image: &mut [u8],
     sites: &[Site],
-) -> Result<Findings, Trouble>
-    ensures { λ r. ⌜ made r (λ f. AllRead (draft .exponent) (ramWords (now (image .entry))) (now (sites .entry)) (vec-items (f .markers))) ⌝ }
+) -> Result<(Findings, Draft<F>), Trouble>
+    ensures { λ r. ⌜ made r (Checked (F·PageForm .sizes) draft (ramWords (now (image .entry))) (now (sites .entry))) ⌝ }
 {
     let mut blocks = vec![in heap; 0u8; IMAGE_BYTES]?;
     let mut board = DumpBoard::new(&mut blocks);

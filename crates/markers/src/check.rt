@@ -2,7 +2,8 @@ ghost use mathlib.Core.Path.{_≡_};
 ghost use Rattle.std.specs.Of.Vec.{vec-items};
 ghost use Rattle.std.specs.Vec.{made};
 ghost use Rattle.paging.specs.Plan.{pageCount};
-ghost use Rattle.markers.specs.Markers.{markerOf, markerRead, AllRead, AllMarks};
+ghost use Rattle.markers.specs.Markers.{markerOf, markerRead, markerUsed, sitesUsed, AllRead, AllMarks, Checked};
+use crate::findings::Findings;
 use crate::marker::Marker;
 use crate::marker::Site;
 use crate::trouble::Trouble;
@@ -38,6 +39,7 @@ pub fn read_marker<F: PageForm, S: ReadStorage>(
     address: u16,
 ) -> Result<Marker, Fault>
     ensures answer { λ r. ⌜ r ≡ markerRead (now (unit .entry) .plan .exponent) (S·ReadStorage .words (now (storage .entry))) address ⌝ }
+    ensures state { λ _. ⌜ now (unit .exit) .state ≡ markerUsed (F·PageForm .sizes) (now (unit .entry) .plan .exponent) (S·ReadStorage .words (now (storage .entry))) address (now (unit .entry) .state) ⌝ }
     ensures plan { λ _. ⌜ now (unit .exit) .plan ≡ now (unit .entry) .plan ⌝ }
 {
     let number = u32::from(address);
@@ -58,13 +60,6 @@ pub fn read_marker<F: PageForm, S: ReadStorage>(
     Ok(spelled(first, second, easting, northing))
 }
 
-// What a check of an image found: the marker at each site, and the mark of each real page after it.
-#[derive(Drop)]
-pub struct Findings {
-    pub markers: Vec<Marker>,
-    pub pages: Vec<PageMark>,
-}
-
 // Reads the marker at each site.
 pub fn read_markers<F: PageForm, S: ReadStorage>(
     heap: Global,
@@ -73,6 +68,7 @@ pub fn read_markers<F: PageForm, S: ReadStorage>(
     sites: &[Site],
 ) -> Result<Vec<Marker>, Trouble>
     ensures found { λ r. ⌜ made r (λ v. AllRead (now (unit .entry) .plan .exponent) (S·ReadStorage .words (now (storage .entry))) (now (sites .entry)) (vec-items v)) ⌝ }
+    ensures state { λ r. ⌜ made r (λ _. now (unit .exit) .state ≡ sitesUsed (F·PageForm .sizes) (now (unit .entry) .plan .exponent) (S·ReadStorage .words (now (storage .entry))) (now (unit .entry) .state) (now (sites .entry))) ⌝ }
     ensures plan { λ _. ⌜ now (unit .exit) .plan ≡ now (unit .entry) .plan ⌝ }
 {
     let mut markers = Vec::new(heap);
@@ -95,14 +91,15 @@ pub fn page_marks<F: PageForm>(heap: Global, unit: &MemoryUnit<F>) -> Result<Vec
     Ok(marks)
 }
 
-// Settles a plan, powers a unit on from it, and checks the markers and the pages that the check went through.
+// Settles a plan, powers a unit on from it, and checks the markers and the pages that the check went through. The unit is
+// ended then, which gives the plan back.
 pub fn check_storage<F: PageForm + Drop, S: ReadStorage>(
     heap: Global,
     draft: Draft<F>,
     storage: &S,
     sites: &[Site],
-) -> Result<Findings, Trouble>
-    ensures { λ r. ⌜ made r (λ f. AllRead (draft .exponent) (S·ReadStorage .words (now (storage .entry))) (now (sites .entry)) (vec-items (f .markers))) ⌝ }
+) -> Result<(Findings, Draft<F>), Trouble>
+    ensures { λ r. ⌜ made r (Checked (F·PageForm .sizes) draft (S·ReadStorage .words (now (storage .entry))) (now (sites .entry))) ⌝ }
 {
     let plan = match draft.settle() {
         Ok(plan) => plan,
@@ -111,5 +108,6 @@ pub fn check_storage<F: PageForm + Drop, S: ReadStorage>(
     let mut unit = MemoryUnit::power_on(plan);
     let markers = read_markers(heap, &mut unit, storage, sites)?;
     let pages = page_marks(heap, &unit)?;
-    Ok(Findings { markers, pages })
+    let draft = unit.end();
+    Ok((Findings { markers, pages }, draft))
 }

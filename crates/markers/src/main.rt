@@ -6,6 +6,7 @@ ghost use Rattle.std.specs.Vec.{made};
 mod agreement;
 mod boards;
 mod check;
+mod findings;
 mod image;
 mod marker;
 mod report;
@@ -18,7 +19,7 @@ use boards::on_dump_board;
 use boards::on_interleaved_banks;
 use boards::on_ram_board;
 use boards::on_stacked_banks;
-use check::Findings;
+use findings::Findings;
 use image::draw_all;
 use mmu::state::PageMark;
 use mmu::state::PageMarkPartialEq;
@@ -155,13 +156,13 @@ fn check_boards<F: PageForm + Copy>(
 ) -> Result<(), AnyError> {
     let heap = rt.alloc();
     show_plan(rt, form)?;
-    let ram = on_ram_board(heap, plan_of(form), image, &SITES)?;
+    let (ram, draft) = on_ram_board(heap, plan_of(form), image, &SITES)?;
     show_findings::<F>(rt, "Markers on the RAM board", &ram)?;
-    let interleaved = on_interleaved_banks(heap, plan_of(form), image, &SITES)?;
+    let (interleaved, draft) = on_interleaved_banks(heap, draft, image, &SITES)?;
     let first = compare(rt, "Two interleaved banks", &ram, &interleaved)?;
-    let stacked = on_stacked_banks(heap, plan_of(form), image, &SITES)?;
+    let (stacked, draft) = on_stacked_banks(heap, draft, image, &SITES)?;
     let second = compare(rt, "Two stacked banks", &ram, &stacked)?;
-    let dump = on_dump_board(heap, plan_of(form), image, &SITES)?;
+    let (dump, _draft) = on_dump_board(heap, draft, image, &SITES)?;
     let third = compare(rt, "A dump with shuffled blocks", &ram, &dump)?;
     if first && second && third {
         println!(rt, "The four boards agree.")?;
