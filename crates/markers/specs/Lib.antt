@@ -1,1 +1,1 @@
-pub mod Markers
+pub mod Map

@@ -3,24 +3,11 @@ ghost use mathlib.Core.Bool.{true};
 ghost use Rattle.std.specs.Of.Vec.{vec-items};
 ghost use Rattle.std.specs.Vec.{made};
 
-mod agreement;
-mod boards;
-mod check;
-mod findings;
-mod image;
-mod marker;
 mod report;
-mod survey;
-mod trouble;
 
-use agreement::agree;
-use boards::IMAGE_BYTES;
-use boards::on_dump_board;
-use boards::on_interleaved_banks;
-use boards::on_ram_board;
-use boards::on_stacked_banks;
-use findings::Findings;
-use image::draw_all;
+use boards::ram::RamBoard;
+use boards::ram::RamReadStorage;
+use boards::ram::RamStorage;
 use mmu::state::PageMark;
 use mmu::state::PageMarkPartialEq;
 use paging::address::RealAddress;
@@ -32,17 +19,23 @@ use paging::form::Form4K;
 use paging::form::Form4KPageForm;
 use paging::form::PageForm;
 use refusals::RefusalDisplay;
-use report::MarkerDisplay;
+use report::MarkerLine;
+use report::MarkerLineDisplay;
 use report::PageMap;
 use report::PageMapDisplay;
 use std::error::AnyError;
-use storage::ram::RamBoard;
-use storage::ram::RamReadStorage;
-use storage::ram::RamStorage;
-use survey::SITES;
-use trouble::TroubleDebug;
-use trouble::TroubleDisplay;
-use trouble::TroubleError;
+use survey::agreement::agree;
+use survey::boards::IMAGE_BYTES;
+use survey::boards::on_dump_board;
+use survey::boards::on_interleaved_banks;
+use survey::boards::on_ram_board;
+use survey::boards::on_stacked_banks;
+use survey::findings::Findings;
+use survey::image::draw_all;
+use survey::sites::SITES;
+use survey::trouble::TroubleDebug;
+use survey::trouble::TroubleDisplay;
+use survey::trouble::TroubleError;
 
 // Drafts a plan of 2^25 bytes, which no unit has.
 fn show_refused_plan(rt: &LibcRuntime) -> Result<(), AnyError> {
@@ -114,7 +107,8 @@ fn show_findings<F: PageForm>(
             number: u32::from(site.address) + 8,
         };
         let page = coordinates.page::<F>();
-        println!(rt, "  page {page:2}  {marker}")?;
+        let line = MarkerLine(*marker);
+        println!(rt, "  page {page:2}  {line}")?;
     }
     let map = PageMap {
         pages: &found.pages,

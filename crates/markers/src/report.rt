@@ -1,8 +1,8 @@
 ghost use mathlib.Core.Path.{_≡_};
-ghost use Rattle.markers.specs.Markers.{symbolOf};
-use crate::marker::Marker;
+ghost use Rattle.markers.specs.Map.{symbolOf};
 use mmu::state::PageMark;
 use std::fmt;
+use survey::marker::Marker;
 
 // A length that is kept in centimetres, in metres.
 #[derive(Clone, Copy)]
@@ -16,13 +16,18 @@ pub impl fmt::Display for Metres as MetresDisplay {
     }
 }
 
-pub impl fmt::Display for Marker as MarkerDisplay {
+// A marker as a line of the report shows it.
+#[derive(Clone, Copy)]
+pub struct MarkerLine(pub Marker);
+
+pub impl fmt::Display for MarkerLine as MarkerLineDisplay {
     fn fmt<W: fmt::Write>(&self, f: &mut fmt::Formatter<W>) -> fmt::Result {
-        for character in &self.name {
+        let marker = self.0;
+        for character in &marker.name {
             f.write_char(*character as char)?;
         }
-        let easting = Metres(self.easting);
-        let northing = Metres(self.northing);
+        let easting = Metres(marker.easting);
+        let northing = Metres(marker.northing);
         write!(f, "  easting {easting}  northing {northing}")
     }
 }

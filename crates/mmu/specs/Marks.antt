@@ -17,7 +17,7 @@ abbrev pub noMark : PageMark
 noMark = record { referenced = false; changed = false }
 
 -- After power-on no page is marked.
-abbrev pub poweredOn : UnitState
+unfoldable pub poweredOn : UnitState
 poweredOn = record { marks = replicate 8192 noMark }
 
 abbrev pub markOf : UnitState → ℕ → PageMark

@@ -8,9 +8,10 @@ use native.Mathlib.Omega.{arith}
 use native.Mathlib.Nat.{div-div-eq-div-mul}
 use borrow.Author.Needs.{needs}
 use lib.Dec.{eqb}
-use lib.ListN.{length}
+use lib.ListN.{length, length-set}
 use Rattle.std.proofs.shelf.Lists.{places}
 use Rattle.std.proofs.shelf.Ways.{tells}
+use Rattle.storage.specs.Words.{merged}
 use Rattle.storage.specs.Bytes.{wordAt, withWord}
 
 by-bytes :
@@ -51,3 +52,9 @@ pub word-put :
     wordAt (withWord bs n w) k ≡ cond (eqb k n) w (wordAt bs k)
 word-put bs n w k h fits =
     let here = put-here bs n w h fits in let there = put-there bs n w k h in grind (arith, tells)
+
+pub merged-fits : (old value mask : ℕ) → merged old value mask < 4294967296
+merged-fits old value mask = grind (arith, tells)
+
+pub length-with-word : (bs : List ℕ) (n w : ℕ) → length (withWord bs n w) ≡ length bs
+length-with-word bs n w = simp length-set

@@ -4,8 +4,6 @@ ghost use Prim.Native.Nat.{_+_, _*_, _<_};
 ghost use lib.ListN.{length};
 ghost use Rattle.storage.specs.Words.{merged};
 ghost use Rattle.storage.specs.Bytes.{wordAt, withWord};
-ghost use Rattle.storage.specs.Ram.{ramCount};
-use crate::words::WORD_LIMIT;
 
 fn choose(on: bool, new: u8, old: u8) -> u8
     ensures { λ r. ⌜ r ≡ cond on new old ⌝ }
@@ -25,18 +23,6 @@ pub fn merge(old: u32, value: u32, mask: u8) -> u32
         choose(mask / 2 % 2 == 1, c, g),
         choose(mask % 2 == 1, d, h),
     ])
-}
-
-// How many words of a storage lie in the bytes.
-pub fn words_in(bytes: &[u8]) -> u32
-    ensures { λ r. ⌜ r ≡ ramCount (now (bytes .entry)) ⌝ }
-{
-    let whole = bytes.len() / 4;
-    if whole < WORD_LIMIT as usize {
-        whole as u32
-    } else {
-        WORD_LIMIT
-    }
 }
 
 pub fn get_word(bytes: &[u8], n: u32) -> u32

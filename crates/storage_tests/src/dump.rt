@@ -1,12 +1,12 @@
 use crate::cases::holds;
 use crate::cases::number;
+use dump_board::board::DumpBoard;
+use dump_board::board::DumpReadStorage;
+use dump_board::board::DumpStorage;
 use refusals::refusal::Refusal;
 use refusals::refusal::RefusalDebug;
 use refusals::refusal::RefusalPartialEq;
 use std::test::*;
-use storage::dump::DumpBoard;
-use storage::dump::DumpReadStorage;
-use storage::dump::DumpStorage;
 use storage::words::ReadStorage;
 use storage::words::Storage;
 

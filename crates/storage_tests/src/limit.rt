@@ -2,19 +2,19 @@
 ghost use Prim.Native.Nat.{_≤_};
 ghost use Rattle.storage_tests.specs.Made.{madeWords, made-bounded};
 use crate::cases::number;
+use boards::interleaved::Interleaved;
+use boards::interleaved::InterleavedReadStorage;
+use boards::interleaved::InterleavedStorage;
+use boards::ram::RamBoard;
+use boards::ram::RamReadStorage;
+use boards::ram::RamStorage;
+use boards::stacked::Stacked;
+use boards::stacked::StackedReadStorage;
+use boards::stacked::StackedStorage;
 use refusals::refusal::Refusal;
 use refusals::refusal::RefusalDebug;
 use refusals::refusal::RefusalPartialEq;
 use std::test::*;
-use storage::interleaved::Interleaved;
-use storage::interleaved::InterleavedReadStorage;
-use storage::interleaved::InterleavedStorage;
-use storage::ram::RamBoard;
-use storage::ram::RamReadStorage;
-use storage::ram::RamStorage;
-use storage::stacked::Stacked;
-use storage::stacked::StackedReadStorage;
-use storage::stacked::StackedStorage;
 use storage::words::ReadStorage;
 use storage::words::Storage;
 

@@ -1,12 +1,12 @@
 use crate::cases::holds;
 use crate::cases::number;
+use boards::ram::RamBoard;
+use boards::ram::RamReadStorage;
+use boards::ram::RamStorage;
 use refusals::refusal::Refusal;
 use refusals::refusal::RefusalDebug;
 use refusals::refusal::RefusalPartialEq;
 use std::test::*;
-use storage::ram::RamBoard;
-use storage::ram::RamReadStorage;
-use storage::ram::RamStorage;
 use storage::words::ReadStorage;
 use storage::words::Storage;
 

@@ -5,6 +5,9 @@ use crate::support::accepted;
 use crate::support::at;
 use crate::support::only_marked;
 use crate::support::unit_of;
+use boards::ram::RamBoard;
+use boards::ram::RamReadStorage;
+use boards::ram::RamStorage;
 use mmu::answer::AccessDebug;
 use mmu::answer::AccessPartialEq;
 use mmu::answer::FaultDebug;
@@ -23,9 +26,6 @@ use refusals::refusal::Refusal;
 use refusals::refusal::RefusalDebug;
 use refusals::refusal::RefusalPartialEq;
 use std::test::*;
-use storage::ram::RamBoard;
-use storage::ram::RamReadStorage;
-use storage::ram::RamStorage;
 use storage::words::Storage;
 
 // A load sets the reference mark of its page, a store the change mark too, and a later load clears neither. Only the page that

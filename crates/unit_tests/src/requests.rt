@@ -2,6 +2,9 @@ use crate::support::accepted;
 use crate::support::at;
 use crate::support::refused;
 use crate::support::unit_of;
+use boards::ram::RamBoard;
+use boards::ram::RamReadStorage;
+use boards::ram::RamStorage;
 use mmu::answer::AccessDebug;
 use mmu::answer::AccessPartialEq;
 use mmu::answer::FaultDebug;
@@ -18,9 +21,6 @@ use refusals::refusal::Refusal;
 use refusals::refusal::RefusalDebug;
 use refusals::refusal::RefusalPartialEq;
 use std::test::*;
-use storage::ram::RamBoard;
-use storage::ram::RamReadStorage;
-use storage::ram::RamStorage;
 use storage::words::Storage;
 
 // An accepted request has the number 0 and its own value, a refused one its refusal's number and the value 0.

@@ -1,0 +1,3 @@
+pub mod interleaved;
+pub mod ram;
+pub mod stacked;

@@ -1,0 +1,2 @@
+pub mod board;
+pub mod directory;

@@ -1,6 +1,0 @@
-use borrow.Author.Needs.{needs}
-use Rattle.storage.proofs.Tabulated.{length-tabulated}
-use Rattle.storage.proofs.stacked.StackedReadStorage.count.Needs as need
-
-pub returns : need.returns
-returns g c = simp length-tabulated (search needs)
