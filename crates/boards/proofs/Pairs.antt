@@ -4,9 +4,9 @@ use mathlib.Core.Logic.{_≢_}
 use mathlib.Core.List.{List}
 use Prim.Native.Nat.{ℕ, _-_, _/_, _%_, _<_, _≤_}
 use native.Mathlib.Omega.{arith}
-use lib.ListN.{length, getD}
+use lib.ListN.{length}
 use Rattle.std.proofs.shelf.Ways.{tells}
-use Rattle.storage.specs.Words.{readOf, writeOf, written}
+use Rattle.storage.specs.Words.{readOf, written}
 use Rattle.boards.specs.Interleaved.{interleavedCount, interleavedAt, interleaved}
 use Rattle.boards.specs.Stacked.{stackedCount, stackedAt, stacked}
 use Rattle.storage.proofs.Tabulated.{length-tabulated, tabulated-at, tabulated-written, length-written, written-at}

@@ -1,12 +1,10 @@
 -- What a write leaves of the words that lie in bytes.
 use mathlib.Core.Path.{_≡_}
 use mathlib.Core.List.{List}
-use Prim.Native.Nat.{ℕ, _+_, _*_, _<_}
+use Prim.Native.Nat.{ℕ, _<_}
 use native.Mathlib.Omega.{arith}
-use lib.Dec.{eqb, ltb}
-use lib.ListN.{length, length-set}
 use Rattle.std.proofs.shelf.Ways.{tells}
-use Rattle.storage.specs.Words.{merged, written, tabulated}
+use Rattle.storage.specs.Words.{merged, written}
 use Rattle.storage.specs.Bytes.{wordAt, withWord}
 use Rattle.boards.specs.Ram.{ramCount, ramWords}
 use Rattle.storage.proofs.Tabulated.{tabulated-written}

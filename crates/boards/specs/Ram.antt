@@ -1,5 +1,4 @@
 -- The RAM board: the words of the lent bytes, in their order.
-use mathlib.Core.Path.{_≡_}
 use mathlib.Core.List.{List}
 use mathlib.Core.Bool.{cond}
 use Prim.Native.Nat.{ℕ, _/_, _≤_, min}

@@ -1,15 +1,13 @@
 -- The words of a dump board: where they lie, what a write leaves, and what its directory makes of them.
 use mathlib.Core.Path.{_≡_, refl, sym, ap, _∙_}
-use mathlib.Core.Logic.{_≢_}
-use mathlib.Core.List.{List, [], _∷_}
-use Prim.Native.Nat.{ℕ, suc, _+_, _*_, _/_, _%_, _<_, _≤_}
+use mathlib.Core.List.{List, []}
+use Prim.Native.Nat.{ℕ, _+_, _*_, _/_, _%_, _<_}
 use native.Mathlib.Omega.{arith}
-use lib.Dec.{eqb, ltb}
-use lib.ListN.{length, getD}
+use lib.ListN.{length}
 use Rattle.std.proofs.shelf.Ways.{tells}
 use Rattle.storage.specs.Words.{merged, written, tabulated}
 use Rattle.storage.specs.Bytes.{wordAt, withWord}
-use Rattle.dump_board.specs.Dump.{IsDirectory, blockOf, dumped, dumpCount, placed, dumpWords, Lists, Inside, Apart}
+use Rattle.dump_board.specs.Dump.{dumped, dumpCount, placed, dumpWords, Lists, Apart}
 use Rattle.storage.proofs.Tabulated.{length-tabulated, tabulated-at, tabulated-by, tabulated-written, nothing-tabulated}
 use Rattle.storage.proofs.Splits.{word-put, merged-fits, length-with-word}
 use Rattle.dump_board.proofs.Directories.{block-of}

@@ -1,14 +1,14 @@
 -- Loads and stores, byte by byte.
 use mathlib.Core.Path.{_≡_, refl, sym, ap, _∙_}
-use mathlib.Core.Logic.{_⊎_, inl, inr, ⊎-elim}
+use mathlib.Core.Logic.{⊎-elim}
 use mathlib.Core.List.{List}
 use mathlib.Core.Bool.{Bool, true, false, cond, _&&_}
 use Prim.Native.Nat.{ℕ, zero, suc, _+_, _-_, _*_, _/_, _%_, _^_, _<_, _≤_}
 use native.Mathlib.Omega.{arith}
 use native.Mathlib.Nat.{div-one}
 use lib.Dec.{eqb, leb, ltb}
-use lib.ListN.{length, getD}
-use Rattle.std.proofs.shelf.Bits.{field-of, shr-shr, shl-shr, mod-pow-add, mod-low, mod-below, pow-pos}
+use lib.ListN.{getD}
+use Rattle.std.proofs.shelf.Bits.{field-of, shr-shr, shl-shr, mod-pow-add, mod-low, mod-below}
 use Rattle.std.proofs.shelf.Ways.{tells}
 use Rattle.std.proofs.shelf.Tests.{
   cases-eq,
@@ -24,7 +24,7 @@ use Rattle.std.proofs.shelf.Tests.{
   cond-true,
   cond-false,
 }
-use Rattle.storage.specs.Words.{merged, written, chosen}
+use Rattle.storage.specs.Words.{merged, chosen}
 use Rattle.storage.proofs.Tabulated.{length-written, written-at}
 use Rattle.mmu.specs.declared.width.Width.{Width}
 use Rattle.mmu.specs.declared.width.Width.the-variants.{Byte, Halfword, Word}

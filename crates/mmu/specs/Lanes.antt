@@ -1,8 +1,6 @@
 -- Bytes, halfwords and words in a storage of words. The first byte of a word is its highest.
 use mathlib.Core.List.{List}
-use mathlib.Core.Bool.{Bool, cond}
-use Prim.Native.Nat.{ℕ, _+_, _-_, _*_, _/_, _%_, _^_}
-use lib.Dec.{ltb}
+use Prim.Native.Nat.{ℕ, _-_, _*_, _/_, _%_, _^_}
 use lib.ListN.{getD}
 use Rattle.storage.specs.Words.{written}
 use Rattle.mmu.specs.declared.width.Width.{Width}

@@ -1,6 +1,5 @@
 -- Page marks: which real pages were used, and which were stored to.
 use mathlib.Core.Bool.{Bool, true, false, cond, _||_}
-use mathlib.Core.List.{List}
 use Prim.Native.Nat.{ℕ}
 use lib.Dec.{ltb}
 use lib.ListN.{getD, set, replicate}

@@ -1,6 +1,5 @@
 ghost use mathlib.Core.Path.{_≡_};
-ghost use Prim.Native.Nat.{_*_, _<_, _≤_};
-ghost use lib.ListN.{length};
+ghost use Prim.Native.Nat.{_<_};
 ghost use Rattle.std.specs.Vec.{made};
 ghost use Rattle.paging.specs.Address.{pageOf};
 ghost use Rattle.mmu.specs.Answers.{passed};

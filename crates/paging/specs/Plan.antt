@@ -1,5 +1,4 @@
 -- The numbers of a plan: a page form, a size exponent k and a base number b.
-use mathlib.Core.Path.{_≡_}
 use mathlib.Core.Bool.{cond}
 use Prim.Native.Nat.{ℕ, _*_, _/_, _^_}
 use lib.Dec.{ltb}

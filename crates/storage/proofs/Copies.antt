@@ -2,13 +2,13 @@
 use mathlib.Core.Path.{_≡_, refl, sym, ap, _∙_}
 use mathlib.Core.List.{List}
 use mathlib.Core.Bool.{cond}
-use Prim.Native.Nat.{ℕ, _+_, _<_, _≤_}
+use Prim.Native.Nat.{ℕ, _+_, _<_}
 use native.Mathlib.Omega.{arith}
 use lib.Dec.{ltb}
 use lib.ListN.{length, getD}
 use Rattle.std.proofs.shelf.Ways.{tells}
 use Rattle.storage.specs.Words.{written}
-use Rattle.storage.specs.Copy.{copiedUpTo, copied}
+use Rattle.storage.specs.Copy.{copiedUpTo}
 use Rattle.storage.proofs.Tabulated.{length-tabulated, tabulated-by, tabulated-written}
 use Rattle.storage.proofs.Splits.{split-word}
 

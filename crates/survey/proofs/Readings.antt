@@ -1,5 +1,5 @@
 -- The steps of the loops that read markers and marks.
-use mathlib.Core.Path.{_≡_, refl, sym, ap, _∙_}
+use mathlib.Core.Path.{_≡_, sym, ap, _∙_}
 use mathlib.Core.Logic.{⊎-elim}
 use mathlib.Core.List.{List, [], _∷_, _++_, map}
 use Prim.Native.Nat.{ℕ, _+_, _<_, _≤_}
@@ -7,7 +7,7 @@ use native.Mathlib.Omega.{arith}
 use lib.ListN.{length, getD, take, drop}
 use Rattle.std.proofs.shelf.Lists.{map-more, map-push, getD-append-left, getD-push, length-push, at-drop-more, at-drop-all}
 use Rattle.std.proofs.shelf.Tests.{cases-eq}
-use Rattle.std.specs.declared.result.Result.the-variants.{Ok, Err}
+use Rattle.std.specs.declared.result.Result.the-variants.{Ok}
 use Rattle.paging.specs.declared.geometry.PageGeometry.{PageGeometry}
 use Rattle.mmu.specs.declared.state.PageMark.{PageMark}
 use Rattle.mmu.specs.declared.state.UnitState.{UnitState}

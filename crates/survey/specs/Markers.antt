@@ -9,7 +9,6 @@ use Rattle.std.specs.declared.result.Result.{Result}
 use Rattle.std.specs.declared.result.Result.the-variants.{Ok, Err}
 use Rattle.refusals.specs.declared.refusal.Refusal.{Refusal}
 use Rattle.refusals.specs.declared.refusal.Refusal.the-variants.{WordOutside}
-use Rattle.mmu.specs.declared.answer.Access.{Access}
 use Rattle.mmu.specs.declared.answer.Fault.{Fault}
 use Rattle.mmu.specs.declared.width.Width.the-variants.{Word}
 use Rattle.mmu.specs.Answers.{Answer}

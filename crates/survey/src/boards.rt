@@ -1,4 +1,3 @@
-ghost use mathlib.Core.Path.{_≡_};
 ghost use Rattle.std.specs.Vec.{made};
 ghost use Rattle.boards.specs.Ram.{ramWords};
 ghost use Rattle.survey.specs.Markers.{Checked};
@@ -90,7 +89,7 @@ fn on_board<F: PageForm + Drop, S: Storage>(
 {
     let source = RamBoard::new(image);
     if source.count() != board.count() {
-        return Err(Trouble::Refusal(Refusal::SizeDiffers));
+        return Err(Trouble::Refused(Refusal::SizeDiffers));
     }
     copy_words(&source, board)?;
     check_storage(heap, draft, board, sites)

@@ -103,7 +103,7 @@ pub fn check_storage<F: PageForm + Drop, S: ReadStorage>(
 {
     let plan = match draft.settle() {
         Ok(plan) => plan,
-        Err(refused) => return Err(Trouble::Refusal(refused.refusal)),
+        Err(refused) => return Err(Trouble::Refused(refused.refusal)),
     };
     let mut unit = MemoryUnit::power_on(plan);
     let markers = read_markers(heap, &mut unit, storage, sites)?;

@@ -1,3 +1,5 @@
+ghost use mathlib.Core.Path.{_≡_};
+ghost use Rattle.survey.specs.declared.trouble.Trouble.the-variants.{Memory, Refused};
 use mmu::answer::Fault;
 use mmu::answer::FaultDebug;
 use refusals::RefusalDisplay;
@@ -12,30 +14,38 @@ use std::fmt;
 #[derive(Debug, Drop)]
 pub enum Trouble {
     Memory,
-    Refusal(Refusal),
+    Refused(Refusal),
 }
 
 pub impl From<AllocError> for Trouble as TroubleFromAlloc {
+    ghost converts = { λ _ r. r ≡ Memory };
+
     fn from(_e: AllocError) -> Trouble {
         Trouble::Memory
     }
 }
 
 pub impl<T: Drop> From<Refused<T>> for Trouble as TroubleFromRefused {
+    ghost converts = { λ _ r. r ≡ Memory };
+
     fn from(_e: Refused<T>) -> Trouble {
         Trouble::Memory
     }
 }
 
 pub impl From<Refusal> for Trouble as TroubleFromRefusal {
+    ghost converts = { λ e r. r ≡ Refused e };
+
     fn from(e: Refusal) -> Trouble {
-        Trouble::Refusal(e)
+        Trouble::Refused(e)
     }
 }
 
 pub impl From<Fault> for Trouble as TroubleFromFault {
+    ghost converts = { λ e r. r ≡ Refused (e .refusal) };
+
     fn from(e: Fault) -> Trouble {
-        Trouble::Refusal(e.refusal)
+        Trouble::Refused(e.refusal)
     }
 }
 
@@ -43,7 +53,7 @@ pub impl fmt::Display for Trouble as TroubleDisplay {
     fn fmt<W: fmt::Write>(&self, f: &mut fmt::Formatter<W>) -> fmt::Result {
         match self {
             Trouble::Memory => write!(f, "there is not enough memory"),
-            Trouble::Refusal(refusal) => write!(f, "{refusal}"),
+            Trouble::Refused(refusal) => write!(f, "{refusal}"),
         }
     }
 }

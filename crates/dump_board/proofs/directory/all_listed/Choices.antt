@@ -1,5 +1,4 @@
 use Prim.Native.Nat.{ℕ, _<_}
-use mathlib.Core.Path.{_≡_}
 use mathlib.Core.Logic.{_≢_}
 use lib.ListN.{getD}
 use Rattle.dump_board.proofs.directory.all_listed.Given as given
