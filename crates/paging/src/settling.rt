@@ -1,5 +1,5 @@
 ghost use mathlib.Core.Path.{_≡_};
-ghost use Prim.Native.Nat.{_+_, _*_, _≤_};
+ghost use Prim.Native.Nat.{_+_, _*_, _^_, _<_, _≤_};
 ghost use Rattle.std.specs.Results.{Cases};
 ghost use Rattle.std.specs.declared.option.Option.the-variants.{Some, None};
 ghost use Rattle.paging.specs.Plan.{storageBytes, pageCount, tableStart, tableBytes, draftRefusal};
@@ -87,6 +87,9 @@ impl<F: PageForm> SettledPlan<F> {
     pub fn table(&self) -> TableSpan
         ensures start { λ r. ⌜ r .start .number ≡ tableStart (F·PageForm .sizes) (now (self .entry) .exponent) (F·PageForm .base (now (self .entry) .base)) ⌝ }
         ensures entries { λ r. ⌜ r .entries ≡ pageCount (F·PageForm .sizes) (now (self .entry) .exponent) ⌝ }
+        ensures some { λ r. ⌜ 16 ≤ r .entries ⌝ }
+        ensures few { λ r. ⌜ r .entries ≤ 8192 ⌝ }
+        ensures low { λ r. ⌜ r .start .number < 2 ^ 24 ⌝ }
         ensures inside { λ r. ⌜ r .start .number + tableBytes (F·PageForm .sizes) (now (self .entry) .exponent) ≤ storageBytes (now (self .entry) .exponent) ⌝ }
     {
         let entries = self.page_count();

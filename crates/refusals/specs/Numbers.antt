@@ -7,6 +7,10 @@ use Rattle.refusals.specs.declared.refusal.Refusal.the-variants.{
   SizeDiffers,
   ValueTooWide,
   RealAddressOutside,
+  PageFault,
+  LongSearch,
+  PointerOutside,
+  EndlessChain,
   PageMarkOutside,
   WordOutside,
   MaskTooWide,
@@ -19,6 +23,10 @@ numberOf BaseTooHigh = 2
 numberOf SizeDiffers = 4
 numberOf ValueTooWide = 5
 numberOf RealAddressOutside = 7
+numberOf PageFault = 9
+numberOf LongSearch = 10
+numberOf PointerOutside = 11
+numberOf EndlessChain = 12
 numberOf PageMarkOutside = 15
 numberOf WordOutside = 16
 numberOf MaskTooWide = 17

@@ -11,6 +11,14 @@ pub enum Refusal {
     ValueTooWide = 5,
     // a real address at or beyond the end of the storage
     RealAddressOutside = 7,
+    // the page table has no entry for the virtual page
+    PageFault = 9,
+    // 127 entries were compared, and the chain goes on
+    LongSearch = 10,
+    // a pointer that names no entry of the page table
+    PointerOutside = 11,
+    // as many entries were compared as the page table has, and the chain goes on
+    EndlessChain = 12,
     // a page that has no mark, since the plan has no such page
     PageMarkOutside = 15,
     // the word number is the storage's count of words or more
