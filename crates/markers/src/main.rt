@@ -9,11 +9,11 @@ use paging::draft::{Draft, RefusedDraft};
 use paging::form::{Form2K, Form4K, PageForm};
 use report::{MarkerLine, PageMap};
 use survey::agreement::agree;
-use survey::boards::{
-    IMAGE_BYTES, on_dump_board, on_interleaved_banks, on_ram_board, on_stacked_banks,
-};
 use survey::findings::Findings;
 use survey::image::draw_all;
+use survey::on_boards::{
+    IMAGE_BYTES, on_dump_board, on_interleaved_banks, on_ram_board, on_stacked_banks,
+};
 use survey::sites::SITES;
 
 // Drafts a plan of 2^25 bytes, which no unit has.

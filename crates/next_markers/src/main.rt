@@ -6,7 +6,7 @@ mod report;
 use boards::ram::RamBoard;
 use chains::{Damage, show_chain, show_damage, show_two_pages, show_two_storages};
 use lanes::width::Width;
-use next_survey::boards::{
+use next_survey::on_boards::{
     IMAGE_BYTES, on_dump_board, on_interleaved_banks, on_ram_board, on_stacked_banks,
 };
 use next_survey::calls::marker_calls;

@@ -1,4 +1,4 @@
-pub mod exceptions;
+pub mod exception_registers;
 pub mod marks;
 pub mod power;
 pub mod real;

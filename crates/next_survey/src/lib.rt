@@ -1,4 +1,4 @@
-pub mod boards;
+pub mod on_boards;
 pub mod calls;
 pub mod check;
 pub mod findings;

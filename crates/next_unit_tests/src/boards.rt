@@ -62,7 +62,8 @@ fn answers<F: PageForm + Copy, S: Storage>(
     ] {
         assert_eq!(rt; storage.read(n), Ok(word), "word {n}");
     }
-    only_marked(rt, &unit, pages, marks)
+    only_marked(rt, &unit, pages, marks);
+    Ok(())
 }
 
 // The accepted requests reach bytes 0, 7FF, 800, 8000 and FFFF. By 2,048 they lie in pages 0, 0, 1, 16 and 31.

@@ -19,35 +19,36 @@ fn uses<F: PageForm + Copy, S: Storage>(
     second: u32,
 ) -> Result<(), Fail> {
     let mut unit = unit_of(form, 16, 0)?;
-    only_marked(rt, &unit, pages, &[])?;
+    only_marked(rt, &unit, pages, &[]);
     assert!(rt; second > 0);
     assert_eq!(rt;
         unit.load_real(storage, at(second - 1), Width::Byte),
         accepted(0)
     );
-    only_marked(rt, &unit, pages, &[(1, LOADED)])?;
+    only_marked(rt, &unit, pages, &[(1, LOADED)]);
     assert_eq!(rt;
         unit.store_real(storage, at(second), Width::Word, 9),
         accepted(0)
     );
-    only_marked(rt, &unit, pages, &[(1, LOADED), (2, STORED)])?;
+    only_marked(rt, &unit, pages, &[(1, LOADED), (2, STORED)]);
     assert_eq!(rt;
         unit.load_real(storage, at(second), Width::Word),
         accepted(9)
     );
-    only_marked(rt, &unit, pages, &[(1, LOADED), (2, STORED)])?;
+    only_marked(rt, &unit, pages, &[(1, LOADED), (2, STORED)]);
     assert_eq!(rt;
         unit.store_real(storage, at(second - 1), Width::Byte, 0),
         accepted(0)
     );
-    only_marked(rt, &unit, pages, &[(1, STORED), (2, STORED)])?;
+    only_marked(rt, &unit, pages, &[(1, STORED), (2, STORED)]);
     assert_eq!(rt; unit.clear_page_mark(2), Ok(()));
-    only_marked(rt, &unit, pages, &[(1, STORED)])?;
+    only_marked(rt, &unit, pages, &[(1, STORED)]);
     assert_eq!(rt;
         unit.load_real(storage, at(second), Width::Word),
         accepted(9)
     );
-    only_marked(rt, &unit, pages, &[(1, STORED), (2, LOADED)])
+    only_marked(rt, &unit, pages, &[(1, STORED), (2, LOADED)]);
+    Ok(())
 }
 
 #[test]
@@ -91,12 +92,13 @@ fn edges<F: PageForm + Copy, S: Storage>(
         assert_eq!(rt; unit.page_mark(page), Err(Refusal::PageMarkOutside));
         assert_eq!(rt; unit.clear_page_mark(page), Err(Refusal::PageMarkOutside));
     }
-    only_marked(rt, &unit, pages, &[(0, STORED), (last, STORED)])?;
+    only_marked(rt, &unit, pages, &[(0, STORED), (last, STORED)]);
     assert_eq!(rt; unit.page_mark(last), Ok(STORED));
     assert_eq!(rt; unit.clear_page_mark(last), Ok(()));
-    only_marked(rt, &unit, pages, &[(0, STORED)])?;
+    only_marked(rt, &unit, pages, &[(0, STORED)]);
     assert_eq!(rt; unit.clear_page_mark(last), Ok(()));
-    only_marked(rt, &unit, pages, &[(0, STORED)])
+    only_marked(rt, &unit, pages, &[(0, STORED)]);
+    Ok(())
 }
 
 #[test]
@@ -122,7 +124,7 @@ fn refusals<F: PageForm + Copy, S: Storage>(
             let loaded = unit.load_real(storage, at(*address), *width);
             assert_eq!(rt; answer_number(&loaded), *number);
         }
-        only_marked(rt, &unit, pages, &[])?;
+        only_marked(rt, &unit, pages, &[]);
     }
     Ok(())
 }
@@ -146,8 +148,8 @@ fn refused_requests_mark_nothing(rt: HostRuntime) -> Result<(), Fail> {
 // Power-on leaves no mark, not even in the largest storage, which has 8,192 pages of 2,048 bytes or 4,096 of 4,096.
 #[test]
 fn power_on_marks_nothing(rt: HostRuntime) -> Result<(), Fail> {
-    only_marked(&rt, &unit_of(Form2K, 24, 0)?, 8192, &[])?;
-    only_marked(&rt, &unit_of(Form4K, 24, 0)?, 4096, &[])?;
+    only_marked(&rt, &unit_of(Form2K, 24, 0)?, 8192, &[]);
+    only_marked(&rt, &unit_of(Form4K, 24, 0)?, 4096, &[]);
     assert_eq!(rt; unit_of(Form2K, 24, 0)?.page_mark(8191), Ok(UNMARKED));
     assert_eq!(rt;
         unit_of(Form4K, 24, 0)?.page_mark(4096),
@@ -165,9 +167,12 @@ fn restarts<F: PageForm + Copy, S: Storage>(
     last: u32,
 ) -> Result<(), Fail> {
     let unit = used(rt, form, storage)?;
-    only_marked(rt, &unit, pages, &[(0, STORED), (last, STORED)])?;
+    only_marked(rt, &unit, pages, &[(0, STORED), (last, STORED)]);
     match unit.end().settle() {
-        Ok(plan) => only_marked(rt, &MemoryUnit::power_on(plan), pages, &[]),
+        Ok(plan) => {
+            only_marked(rt, &MemoryUnit::power_on(plan), pages, &[]);
+            Ok(())
+        }
         Err(refused) => Err(Fail::from(refused.refusal)),
     }
 }

@@ -70,7 +70,7 @@ pub(crate) fn only_marked<F: PageForm>(
     unit: &MemoryUnit<F>,
     pages: u32,
     listed: &[(u32, PageMark)],
-) -> Result<(), Fail> {
+) {
     for page in 0..pages {
         let mut mark = UNMARKED;
         for (listed_page, listed_mark) in listed {
@@ -80,5 +80,4 @@ pub(crate) fn only_marked<F: PageForm>(
         }
         assert_eq!(rt; unit.page_mark(page), Ok(mark), "page {page}");
     }
-    Ok(())
 }

@@ -1,3 +1,5 @@
+#![tactic(auto)]
+
 pub mod address;
 pub mod base;
 pub mod draft;

@@ -59,12 +59,13 @@ fn loads<F: PageForm, S: Storage>(
     unit: &mut MemoryUnit<F>,
     storage: &mut S,
     places: &[(Place, bool)],
+    case: &str,
 ) {
     for (place, hits) in places {
         let (register, page, entry) = *place;
         let compared = if *hits { NOTHING } else { miss(*place) };
         let answer = unit.load(storage, at::<F>(register, page, 0), Width::Word);
-        assert_eq!(rt; answer, accepted(0, compared), "entry {entry}");
+        assert_eq!(rt; answer, accepted(0, compared), "{case}: entry {entry}");
     }
 }
 
@@ -124,9 +125,9 @@ fn class_of_two<F: PageForm + Copy, S: Storage>(
     storage: &mut S,
 ) -> Result<(), Fail> {
     let mut unit = unit_and_table(rt, form, storage)?;
-    loads(rt, &mut unit, storage, &IN_TURN);
+    loads(rt, &mut unit, storage, &IN_TURN, "in turn");
     let mut unit = unit_and_table(rt, form, storage)?;
-    loads(rt, &mut unit, storage, &WITH_HITS);
+    loads(rt, &mut unit, storage, &WITH_HITS, "with hits");
     Ok(())
 }
 
@@ -144,10 +145,15 @@ fn refused_at_a<F: PageForm, S: Storage>(
     unit: &mut MemoryUnit<F>,
     storage: &mut S,
     compared: Compared,
+    case: &str,
 ) {
     let (register, page, _) = A;
     let answer = unit.store(storage, at::<F>(register, page, 0), Width::Word, 1);
-    assert_eq!(rt; answer, refused(Refusal::ProtectionRefused, compared));
+    assert_eq!(rt;
+        answer,
+        refused(Refusal::ProtectionRefused, compared),
+        "{case}"
+    );
 }
 
 // A hit makes its entry the one used last whatever protection says: with A B in the class, the refused store to A lets C
@@ -157,21 +163,35 @@ fn refused_hits<F: PageForm + Copy, S: Storage>(
     form: F,
     storage: &mut S,
 ) -> Result<(), Fail> {
+    let case = "refused hits";
     let mut unit = unit_and_table(rt, form, storage)?;
-    loads(rt, &mut unit, storage, &[(A, false), (B, false)]);
-    refused_at_a(rt, &mut unit, storage, NOTHING);
-    loads(rt, &mut unit, storage, &[(C, false), (A, true), (B, false)]);
+    loads(rt, &mut unit, storage, &[(A, false), (B, false)], case);
+    refused_at_a(rt, &mut unit, storage, NOTHING, case);
+    loads(
+        rt,
+        &mut unit,
+        storage,
+        &[(C, false), (A, true), (B, false)],
+        case,
+    );
     let mut unit = unit_and_table(rt, form, storage)?;
-    loads(rt, &mut unit, storage, &[(B, false), (C, false)]);
+    loads(rt, &mut unit, storage, &[(B, false), (C, false)], case);
     // A replaces B
-    refused_at_a(rt, &mut unit, storage, miss(A));
+    refused_at_a(rt, &mut unit, storage, miss(A), case);
     loads(
         rt,
         &mut unit,
         storage,
         &[(A, true), (C, true), (A, true), (B, false)],
+        case,
     );
-    loads(rt, &mut unit, storage, &[(A, true), (B, true), (C, false)]);
+    loads(
+        rt,
+        &mut unit,
+        storage,
+        &[(A, true), (B, true), (C, false)],
+        case,
+    );
     Ok(())
 }
 
@@ -182,17 +202,19 @@ fn failed_walks<F: PageForm + Copy, S: Storage>(
     form: F,
     storage: &mut S,
 ) -> Result<(), Fail> {
+    let case = "failed walks";
     let mut unit = unit_and_table(rt, form, storage)?;
-    loads(rt, &mut unit, storage, &[(A, false), (B, false)]);
+    loads(rt, &mut unit, storage, &[(A, false), (B, false)], case);
     for _ in 0..3 {
         let answer = unit.load(storage, at::<F>(0, 0x05, 0), Width::Word);
-        assert_eq!(rt; answer, refused(Refusal::PageFault, NOTHING));
+        assert_eq!(rt; answer, refused(Refusal::PageFault, NOTHING), "{case}");
     }
     loads(
         rt,
         &mut unit,
         storage,
         &[(C, false), (B, true), (C, true), (A, false)],
+        case,
     );
     Ok(())
 }
@@ -204,15 +226,16 @@ fn with_another_table<F: PageForm + Copy, S: Storage>(
     form: F,
     storage: &mut S,
 ) -> Result<(), Fail> {
+    let case = "another table";
     let mut unit = unit_and_table(rt, form, storage)?;
-    loads(rt, &mut unit, storage, &[(A, false), (B, false)]);
+    loads(rt, &mut unit, storage, &[(A, false), (B, false)], case);
     put_table::<F, S>(rt, storage, small_table::<F>(), &[(8, keyed(1, 0x05, 2))])?;
-    loads(rt, &mut unit, storage, &[(A, true), (B, true)]);
-    refused_at_a(rt, &mut unit, storage, NOTHING);
+    loads(rt, &mut unit, storage, &[(A, true), (B, true)], case);
+    refused_at_a(rt, &mut unit, storage, NOTHING, case);
     let (register, page, _) = C;
     let answer = unit.load(storage, at::<F>(register, page, 0), Width::Word);
-    assert_eq!(rt; answer, refused(Refusal::PageFault, NOTHING));
-    loads(rt, &mut unit, storage, &[(A, true), (B, true)]);
+    assert_eq!(rt; answer, refused(Refusal::PageFault, NOTHING), "{case}");
+    loads(rt, &mut unit, storage, &[(A, true), (B, true)], case);
     Ok(())
 }
 
@@ -221,9 +244,9 @@ fn other_requests<F: PageForm + Copy, S: Storage>(
     form: F,
     storage: &mut S,
 ) -> Result<(), Fail> {
-    refused_hits(rt, form, storage).note("refused hits")?;
-    failed_walks(rt, form, storage).note("failed walks")?;
-    with_another_table(rt, form, storage).note("another table")
+    refused_hits(rt, form, storage)?;
+    failed_walks(rt, form, storage)?;
+    with_another_table(rt, form, storage)
 }
 
 #[test]
@@ -248,7 +271,8 @@ fn all_classes<F: PageForm + Copy, S: Storage>(
     }
     for hits in [false, true, true] {
         for (page, entry) in (0u32..16).zip(0u16..16) {
-            loads(rt, &mut unit, storage, &[((1, page, entry), hits)]);
+            let case = "sixteen classes";
+            loads(rt, &mut unit, storage, &[((1, page, entry), hits)], case);
         }
     }
     Ok(())

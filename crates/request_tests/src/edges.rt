@@ -112,16 +112,17 @@ fn stores_at<F: PageForm, S: Storage>(
     words: [u32; 4],
     left: (u32, [u32; 3]),
 ) -> Result<(), Fail> {
+    let number = address.number;
     let (page, left) = left;
     for ((width, value), word) in VALUES.into_iter().zip(left) {
         for n in words {
             storage.write(n, 0, 15)?;
         }
         let answer = unit.store(storage, address, width, value);
-        assert_eq!(rt; answer, accepted(0, NOTHING));
+        assert_eq!(rt; answer, accepted(0, NOTHING), "address {number}");
         let (ends, begins) = if page == 0x20 { (word, 0) } else { (0, word) };
         for (n, expected) in words.into_iter().zip([ends, begins, 0, 0]) {
-            assert_eq!(rt; storage.read(n), Ok(expected), "word {n}");
+            assert_eq!(rt; storage.read(n), Ok(expected), "word {n}, address {number}");
         }
     }
     Ok(())
@@ -139,9 +140,7 @@ fn stores<F: PageForm + Copy, S: Storage>(
     let addresses = first_address..0xffff_ffff;
     for (number, left) in addresses.zip(STORES) {
         let address = EffectiveAddress { number };
-        stores_at(rt, &mut unit, storage, address, words, left).note(format_args!(
-            "address {number}"
-        ))?;
+        stores_at(rt, &mut unit, storage, address, words, left)?;
     }
     Ok(())
 }

@@ -48,6 +48,7 @@ fn keeps_to<F: PageForm + Copy, S: Storage>(
     form: F,
     storage: &mut S,
     rule: (u8, bool, bool, bool),
+    case: &str,
 ) -> Result<(), Fail> {
     let (key, k, loads, stores) = rule;
     let pages = [(4, keyed(0x123, 0x54, key)), (7, keyed(0x123, 0x74, 2))];
@@ -58,18 +59,18 @@ fn keeps_to<F: PageForm + Copy, S: Storage>(
     storage.write(word, 0x8111_2222, 15)?;
     let mut unit = unit_with_key(form, k)?;
     let answer = unit.load(storage, address, Width::Word);
-    assert_eq!(rt; answer, judged(loads, 0x8111_2222, walked));
+    assert_eq!(rt; answer, judged(loads, 0x8111_2222, walked), "{case}");
     let answer = unit.store(storage, address, Width::Word, 0x9333_4444);
-    assert_eq!(rt; answer, judged(stores, 0, NOTHING));
+    assert_eq!(rt; answer, judged(stores, 0, NOTHING), "{case}");
     let kept = if stores { 0x9333_4444 } else { 0x8111_2222 };
-    assert_eq!(rt; storage.read(word), Ok(kept));
+    assert_eq!(rt; storage.read(word), Ok(kept), "{case}");
     let mut unit = unit_with_key(form, k)?;
     let answer = unit.store(storage, address, Width::Word, 0xa555_6666);
-    assert_eq!(rt; answer, judged(stores, 0, walked));
+    assert_eq!(rt; answer, judged(stores, 0, walked), "{case}");
     let kept = if stores { 0xa555_6666 } else { kept };
-    assert_eq!(rt; storage.read(word), Ok(kept));
+    assert_eq!(rt; storage.read(word), Ok(kept), "{case}");
     let answer = unit.load(storage, address, Width::Word);
-    assert_eq!(rt; answer, judged(loads, kept, NOTHING));
+    assert_eq!(rt; answer, judged(loads, kept, NOTHING), "{case}");
     Ok(())
 }
 
@@ -79,8 +80,10 @@ fn keys_of_ordinary_segments(rt: HostRuntime) -> Result<(), Fail> {
     let mut board = RamBoard::new(&mut bytes);
     for rule in RULES {
         let (key, k, _, _) = rule;
-        keeps_to(&rt, Form2K, &mut board, rule).note(format_args!("2K, key {key}, K {k}"))?;
-        keeps_to(&rt, Form4K, &mut board, rule).note(format_args!("4K, key {key}, K {k}"))?;
+        let case = format!(in rt.alloc(); "2K, key {key}, K {k}")?;
+        keeps_to(&rt, Form2K, &mut board, rule, &case)?;
+        let case = format!(in rt.alloc(); "4K, key {key}, K {k}")?;
+        keeps_to(&rt, Form4K, &mut board, rule, &case)?;
     }
     Ok(())
 }

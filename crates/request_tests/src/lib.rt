@@ -1,3 +1,5 @@
+#![tactic(auto)]
+
 // Tests of translated loads and stores: what keys and lock bits permit, which exceptions refusals raise, what the look-aside
 // buffers keep, and where the accesses land. What each test expects is worked out by hand from the rule that its comment
 // states.

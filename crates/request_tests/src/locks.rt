@@ -67,10 +67,12 @@ fn permits<F: PageForm, S: Storage>(
     rt: &impl Abort,
     unit: &mut MemoryUnit<F>,
     storage: &mut S,
+    page: PageEntry,
     place: u32,
     loads: bool,
     stores: bool,
-) -> Result<(), Fail> {
+) {
+    let PageEntry { write, locks, .. } = page;
     let address = at::<F>(4, 0x77, place);
     for (width, value) in [
         (Width::Byte, 0xa5),
@@ -81,15 +83,22 @@ fn permits<F: PageForm, S: Storage>(
         assert_eq!(rt;
             answer_number(&stored),
             if stores { 0 } else { 14 },
-            "store"
+            "store: locks {locks}, write bit {write}, place {place}"
         );
         let loaded = unit.load(storage, address, width);
-        assert_eq!(rt; answer_number(&loaded), if loads { 0 } else { 14 }, "load");
+        assert_eq!(rt;
+            answer_number(&loaded),
+            if loads { 0 } else { 14 },
+            "load: locks {locks}, write bit {write}, place {place}"
+        );
         if stores || !loads {
-            assert_eq!(rt; answer_value(&loaded), if stores { value } else { 0 });
+            assert_eq!(rt;
+                answer_value(&loaded),
+                if stores { value } else { 0 },
+                "value: locks {locks}, write bit {write}, place {place}"
+            );
         }
     }
-    Ok(())
 }
 
 // Write bit and lock bit both on permit loads and stores, one of them only loads, and neither nothing. Each byte of a line
@@ -107,9 +116,9 @@ fn lines<F: PageForm + Copy, S: Storage>(
             let mut unit = unit_and_table(rt, form, storage, page)?;
             for ((first, last), lock) in lines.into_iter().zip(lines_on) {
                 for place in [first, last] {
-                    permits(rt, &mut unit, storage, place, write || lock, write && lock).note(
-                        format_args!("locks {locks}, write bit {write}, place {place}"),
-                    )?;
+                    let loads = write || lock;
+                    let stores = write && lock;
+                    permits(rt, &mut unit, storage, page, place, loads, stores);
                 }
             }
         }

@@ -6,6 +6,7 @@ use lanes::width::Width;
 use next_mmu::unit::MemoryUnit;
 use paging::address::{EffectiveAddress, RealAddress};
 use paging::form::{Form2K, Form4K, PageForm};
+use std::alloc::Global;
 use std::process::Abort;
 use std::test::Fail;
 use storage::words::Storage;
@@ -71,10 +72,11 @@ fn raise<F: PageForm, S: Storage>(
     storage: &mut S,
     cause: Cause,
     step: Step,
+    case: &str,
 ) {
     let (number, _, _, _) = cause;
     let answer = ask(unit, storage, address_of::<F>(cause), Width::Word, step);
-    assert_eq!(rt; answer_number(&answer), number);
+    assert_eq!(rt; answer_number(&answer), number, "{case}");
 }
 
 // Checks the exception register, the address register, and whether that is locked.
@@ -84,11 +86,12 @@ fn shows<F: PageForm>(
     word: u32,
     address: EffectiveAddress,
     locked: bool,
+    case: &str,
 ) {
     let exceptions = unit.exceptions();
-    assert_eq!(rt; exceptions.word(), word);
-    assert_eq!(rt; exceptions.address, address);
-    assert_eq!(rt; exceptions.locked, locked);
+    assert_eq!(rt; exceptions.word(), word, "{case}");
+    assert_eq!(rt; exceptions.address, address, "{case}");
+    assert_eq!(rt; exceptions.locked, locked, "{case}");
 }
 
 // A load, with the bit that it puts into the exception register, and a store, which puts none there.
@@ -99,31 +102,34 @@ const STEPS: [(Step, u32); 2] = [(Step::Load, LOAD), (Step::Store(5), 0)];
 // After that an exception is the first again.
 fn one_then_another<F: PageForm + Copy, S: Storage>(
     rt: &impl Abort,
+    heap: Global,
     form: F,
     storage: &mut S,
     one: Cause,
     another: Cause,
 ) -> Result<(), Fail> {
-    let (_, one_bit, _, _) = one;
-    let (_, another_bit, _, _) = another;
+    let (first, one_bit, _, _) = one;
+    let (second, another_bit, _, _) = another;
+    let case = format!(in heap; "{first}, then {second}")?;
     let both = one_bit | another_bit | MULTIPLE;
     let address = address_of::<F>(one);
     for (one_step, one_load) in STEPS {
         for (another_step, another_load) in STEPS {
             let mut unit = unit_for_causes(form)?;
-            raise(rt, &mut unit, storage, one, one_step);
-            shows(rt, &unit, one_bit | one_load, address, true);
-            raise(rt, &mut unit, storage, another, another_step);
-            shows(rt, &unit, both | one_load, address, true);
+            raise(rt, &mut unit, storage, one, one_step, &case);
+            shows(rt, &unit, one_bit | one_load, address, true, &case);
+            raise(rt, &mut unit, storage, another, another_step, &case);
+            shows(rt, &unit, both | one_load, address, true, &case);
             unit.clear_exceptions();
-            shows(rt, &unit, 0, address, false);
-            raise(rt, &mut unit, storage, another, another_step);
+            shows(rt, &unit, 0, address, false, &case);
+            raise(rt, &mut unit, storage, another, another_step, &case);
             shows(
                 rt,
                 &unit,
                 another_bit | another_load,
                 address_of::<F>(another),
                 true,
+                &case,
             );
         }
     }
@@ -132,17 +138,14 @@ fn one_then_another<F: PageForm + Copy, S: Storage>(
 
 fn any_two<F: PageForm + Copy, S: Storage>(
     rt: &impl Abort,
+    heap: Global,
     form: F,
     storage: &mut S,
 ) -> Result<(), Fail> {
     put_causes::<F, S>(rt, storage)?;
     for one in CAUSES {
         for another in CAUSES {
-            let (first, _, _, _) = one;
-            let (second, _, _, _) = another;
-            one_then_another(rt, form, storage, one, another).note(format_args!(
-                "{first}, then {second}"
-            ))?;
+            one_then_another(rt, heap, form, storage, one, another)?;
         }
     }
     Ok(())
@@ -151,9 +154,9 @@ fn any_two<F: PageForm + Copy, S: Storage>(
 #[test]
 fn exceptions_one_after_the_other(rt: HostRuntime) -> Result<(), Fail> {
     let mut bytes = vec![in rt.alloc(); 0u8; 65536]?;
-    any_two(&rt, Form2K, &mut RamBoard::new(&mut bytes))?;
+    any_two(&rt, rt.alloc(), Form2K, &mut RamBoard::new(&mut bytes))?;
     let mut bytes = vec![in rt.alloc(); 0u8; 65536]?;
-    any_two(&rt, Form4K, &mut RamBoard::new(&mut bytes))
+    any_two(&rt, rt.alloc(), Form4K, &mut RamBoard::new(&mut bytes))
 }
 
 // Bits that are on stay on. All five and the bit for more than one are 20000 + 8 + 40 + 2 + 1 + 10 = 2005B, and 2105B where
@@ -165,21 +168,22 @@ fn all_five<F: PageForm + Copy, S: Storage>(
 ) -> Result<(), Fail> {
     put_causes::<F, S>(rt, storage)?;
     for (step, word) in [(Step::Load, 0x0002_105b), (Step::Store(0), 0x0002_005b)] {
+        let case = "all five";
         let mut unit = unit_for_causes(form)?;
-        shows(rt, &unit, 0, EffectiveAddress { number: 0 }, false);
+        shows(rt, &unit, 0, EffectiveAddress { number: 0 }, false, case);
         for cause in CAUSES {
-            raise(rt, &mut unit, storage, cause, step);
+            raise(rt, &mut unit, storage, cause, step, case);
         }
         let address = at::<F>(8, 0x10, PLACE);
-        shows(rt, &unit, word, address, true);
-        shows(rt, &unit, word, address, true);
+        shows(rt, &unit, word, address, true, case);
+        shows(rt, &unit, word, address, true, case);
         let loaded = unit.load(storage, at::<F>(1, 0x57, 0), Width::Word);
         assert_eq!(rt; answer_number(&loaded), 0);
-        shows(rt, &unit, word, address, true);
+        shows(rt, &unit, word, address, true, case);
         unit.clear_exceptions();
-        shows(rt, &unit, 0, address, false);
+        shows(rt, &unit, 0, address, false, case);
         unit.clear_exceptions();
-        shows(rt, &unit, 0, address, false);
+        shows(rt, &unit, 0, address, false, case);
     }
     Ok(())
 }
@@ -261,7 +265,7 @@ fn raises_nothing<F: PageForm + Copy, S: Storage, T: Storage>(
     let after_fault = unit.exceptions();
     refused_requests(rt, &mut unit, storage, short, after_fault);
     refused_calls(rt, &mut unit, storage, after_fault);
-    shows(rt, &unit, 0x0000_1008, address, true);
+    shows(rt, &unit, 0x0000_1008, address, true, "after a page fault");
     Ok(())
 }
 

@@ -1,3 +1,5 @@
+#![tactic(auto)]
+
 pub mod bytes;
 pub mod copy;
 pub mod words;

@@ -113,36 +113,35 @@ fn refused_writes(rt: HostRuntime) {
 
 // A list that is no directory is refused with 18 by a new board, which stays empty, and by one that has a directory,
 // which keeps it: here two blocks that hold each other's page, so that page 0 is in block 1.
-fn no_directory(rt: &impl Abort, pages: &[u16]) -> Result<(), Fail> {
+fn no_directory(rt: &impl Abort, pages: &[u16], case: &str) {
     let mut bytes = [0u8; 4096];
     mark(&mut bytes);
     let mut board = DumpBoard::new(&mut bytes);
-    assert_eq!(rt; number(board.fill(pages)), 18);
+    assert_eq!(rt; number(board.fill(pages)), 18, "{case}");
     holds(rt, &board, &[]);
-    assert_eq!(rt; number(board.fill(&[1, 0])), 0);
-    assert_eq!(rt; number(board.fill(pages)), 18);
-    assert_eq!(rt; board.count(), 1024);
-    assert_eq!(rt; board.read(0), Ok(0x01000000));
-    assert_eq!(rt; board.read(1023), Ok(0x000001ff));
-    Ok(())
+    assert_eq!(rt; number(board.fill(&[1, 0])), 0, "{case}");
+    assert_eq!(rt; number(board.fill(pages)), 18, "{case}");
+    assert_eq!(rt; board.count(), 1024, "{case}");
+    assert_eq!(rt; board.read(0), Ok(0x01000000), "{case}");
+    assert_eq!(rt; board.read(1023), Ok(0x000001ff), "{case}");
 }
 
 // Each page number below the length stands in a directory exactly once, and no other number.
 #[test]
-fn refused_directories(rt: HostRuntime) -> Result<(), Fail> {
-    no_directory(&rt, &[0, 0]).note("page 0 twice")?;
-    no_directory(&rt, &[0, 1, 2, 1]).note("page 1 twice, and page 3 missing")?;
-    no_directory(&rt, &[1]).note("page 1 of one page")?;
-    no_directory(&rt, &[0, 2]).note("a page at the length, and page 1 missing")?;
-    no_directory(&rt, &[65535, 0]).note("a page far outside")
+fn refused_directories(rt: HostRuntime) {
+    no_directory(&rt, &[0, 0], "page 0 twice");
+    no_directory(&rt, &[0, 1, 2, 1], "page 1 twice, and page 3 missing");
+    no_directory(&rt, &[1], "page 1 of one page");
+    no_directory(&rt, &[0, 2], "a page at the length, and page 1 missing");
+    no_directory(&rt, &[65535, 0], "a page far outside");
 }
 
 // A directory has at most 1,024 pages, even if each of more stands exactly once.
 #[test]
-fn too_many_pages(rt: HostRuntime) -> Result<(), Fail> {
+fn too_many_pages(rt: HostRuntime) {
     let mut pages = [0u16; 1025];
     reverse(&mut pages);
-    no_directory(&rt, &pages)
+    no_directory(&rt, &pages, "1,025 pages");
 }
 
 // A list of no pages is a directory, and takes the words of the one before.
@@ -200,11 +199,11 @@ fn full_directory(rt: HostRuntime) -> Result<(), Fail> {
     assert!(rt; bytes.len() == 2_097_152);
     assert_eq!(rt;
         &bytes[2_095_100..2_095_112],
-        [0u8, 0, 0, 0, 1, 2, 3, 4, 0, 0, 0, 0]
+        [0u8, 0, 0, 0, 1, 2, 3, 4, 0, 0, 0, 0].as_slice()
     );
     assert_eq!(rt;
         &bytes[2_040..2_052],
-        [0u8, 0, 0, 0, 5, 6, 7, 8, 0, 0, 0, 0]
+        [0u8, 0, 0, 0, 5, 6, 7, 8, 0, 0, 0, 0].as_slice()
     );
     Ok(())
 }

@@ -125,6 +125,9 @@ fn over_a_dump(rt: HostRuntime) {
     let mut dump = DumpBoard::new(&mut blocks);
     assert_eq!(rt; number(dump.fill(&[1, 0])), 0);
     by_turns(&rt, RamBoard::new(&mut ram), dump);
-    assert_eq!(rt; &blocks[..8], [1u8, 2, 3, 4, 0, 0, 0, 0]);
-    assert_eq!(rt; &ram[2044..2056], [0u8, 0, 0, 0, 5, 6, 7, 8, 0, 0, 0, 0]);
+    assert_eq!(rt; &blocks[..8], [1u8, 2, 3, 4, 0, 0, 0, 0].as_slice());
+    assert_eq!(rt;
+        &ram[2044..2056],
+        [0u8, 0, 0, 0, 5, 6, 7, 8, 0, 0, 0, 0].as_slice()
+    );
 }

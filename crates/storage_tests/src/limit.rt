@@ -153,11 +153,11 @@ fn writes_at_the_limit(rt: HostRuntime) -> Result<(), Fail> {
     assert!(rt; second.len() == 12_582_912);
     assert_eq!(rt;
         &second[8_388_600..8_388_612],
-        [0u8, 0, 0, 0, 1, 2, 3, 4, 0, 0, 0, 0]
+        [0u8, 0, 0, 0, 1, 2, 3, 4, 0, 0, 0, 0].as_slice()
     );
     assert_eq!(rt;
         &second[4_194_296..4_194_308],
-        [0u8, 0, 0, 0, 1, 2, 3, 4, 0, 0, 0, 0]
+        [0u8, 0, 0, 0, 1, 2, 3, 4, 0, 0, 0, 0].as_slice()
     );
     Ok(())
 }

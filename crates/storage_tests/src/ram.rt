@@ -112,7 +112,7 @@ fn beyond_the_limit(rt: HostRuntime) -> Result<(), Fail> {
     assert!(rt; bytes.len() == 16_777_224);
     assert_eq!(rt;
         &bytes[16_777_208..],
-        [7u8, 7, 7, 7, 1, 2, 3, 4, 7, 7, 7, 7, 7, 7, 7, 7]
+        [7u8, 7, 7, 7, 1, 2, 3, 4, 7, 7, 7, 7, 7, 7, 7, 7].as_slice()
     );
     Ok(())
 }

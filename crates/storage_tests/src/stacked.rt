@@ -115,6 +115,9 @@ fn over_a_dump(rt: HostRuntime) {
     let mut dump = DumpBoard::new(&mut blocks);
     assert_eq!(rt; number(dump.fill(&[1, 0])), 0);
     behind_one_word(&rt, RamBoard::new(&mut ram), dump);
-    assert_eq!(rt; &blocks[2044..2056], [0u8, 0, 0, 0, 1, 2, 3, 4, 0, 0, 0, 0]);
+    assert_eq!(rt;
+        &blocks[2044..2056],
+        [0u8, 0, 0, 0, 1, 2, 3, 4, 0, 0, 0, 0].as_slice()
+    );
     assert_eq!(rt; ram, [5u8, 6, 7, 8]);
 }

@@ -1,5 +1,7 @@
 -- Survey markers in a storage: four words each, two for the name of eight characters, then easting and northing.
-use Rattle.std.specs.Prelude.{◌≡◌, ℕ, ◌+◌, ◌*◌, ◌/◌, ◌%◌, ◌<◌, cond, List, [], ◌∷◌, map, length, set, Ok, Err, vec_items, Result, nat_lt, slice_index, slice_index_or, slice_set}
+use Rattle.std.specs.Prelude.{◌≡◌, ℕ, ◌+◌, ◌*◌, ◌/◌, ◌%◌, ◌<◌, Bool, ◌==◌, cond, List, [], ◌∷◌, map, length, Ok, Err, vec_items, Result, nat_lt, slice_index, slice_index_or, slice_set}
+use Rattle.std.specs.Ordering.{eq_of_both, on}
+use Rattle.std.specs.Cmp.Lexicographic.{pointwise}
 use Rattle.refusals.specs.declared.refusal.Refusal.{Refusal}
 use Rattle.refusals.specs.declared.refusal.Refusal.TheVariants.{WordOutside}
 use Rattle.mmu.specs.declared.answer.Fault.{Fault}
@@ -34,6 +36,13 @@ marker_of first second easting northing =
       northing = northing;
     }
 
+-- whether two markers are the same in name, easting and northing
+abbrev pub same_marker : Marker → Marker → Bool
+same_marker =
+    eq_of_both
+    (eq_of_both (on (λ (m : Marker). m.name) (pointwise ◌==◌)) (on (λ (m : Marker). m.easting) ◌==◌))
+    (on (λ (m : Marker). m.northing) ◌==◌)
+
 -- the number that four characters of a name make as a word
 abbrev pub name_word : List ℕ → ℕ → ℕ
 name_word name i = slice_index name i * 16777216 + slice_index name (i + 1) * 65536 + slice_index name (i + 2) * 256 + slice_index name (i + 3)
@@ -65,7 +74,7 @@ sites_used f k ws s (site ∷ rest) = sites_used f k ws (marker_used f k ws site
 -- the words after a marker was drawn at a real address; all four words have to be there
 abbrev pub with_marker : List ℕ → ℕ → Marker → List ℕ
 with_marker ws n m =
-    set
+    slice_set
     (slice_set (slice_set (slice_set ws n (name_word m.name 0)) (n + 1) (name_word m.name 4)) (n + 2) m.easting)
     (n + 3)
     m.northing

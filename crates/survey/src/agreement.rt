@@ -1,15 +1,19 @@
 ghost use Rattle.std.specs.Prelude.{◌≡◌, Decides};
 ghost use Rattle.std.specs.Cmp.Rules.{comparing};
+ghost use Rattle.survey.specs.Markers.{same_marker};
 ghost use Rattle.std.proofs.Common.{rules};
 
 use crate::marker::Marker;
 
 impl PartialEq for Marker {
-    ghost equals = { λ a b r. Decides r (a ≡ b) };
+    ghost eq = { same_marker };
 
     ghost laws = { Prim.search (comparing, rules) };
 
-    fn eq(&self, other: &Marker) -> bool {
+    fn eq(&self, other: &Marker) -> bool
+        ensures computes { result ≡ same_marker self.now other.now }
+        ensures decides { Decides result (self.now ≡ other.now) }
+    {
         let name: &[u8] = &self.name;
         let other_name: &[u8] = &other.name;
         let same_name = name == other_name;

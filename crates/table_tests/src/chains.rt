@@ -121,12 +121,20 @@ pub(crate) fn comes_as_listed(
     rt: &impl Abort,
     outcome: Result<Found, SearchFault>,
     case: Case,
-) -> Result<(), Fail> {
-    let (segment, page, number, count, path) = case;
+    long_stop: bool,
+    setting: &str,
+) {
+    let (_, _, number, count, path) = case;
     assert!(rt; count <= 3);
-    comes_to(rt, outcome, asked(case), number, &path[0..count]).note(format_args!(
-        "segment {segment}, page {page}"
-    ))
+    comes_to(
+        rt,
+        outcome,
+        asked(case),
+        long_stop,
+        number,
+        &path[0..count],
+        setting,
+    );
 }
 
 // Checks a walk of the list, and the list of the entries that it compares, with the long-stop bit off and on: it makes no
@@ -137,17 +145,14 @@ pub(crate) fn answers_as_listed<F: PageForm, S: ReadStorage>(
     storage: &S,
     plan: &SettledPlan<F>,
     case: Case,
+    setting: &str,
 ) -> Result<(), Fail> {
-    let (segment, page, number, count, path) = case;
+    let (_, _, number, count, path) = case;
     assert!(rt; count <= 3);
     let path = &path[0..count];
     let tag = asked(case);
-    answers(rt, heap, storage, plan, tag, false, number, path).note(format_args!(
-        "segment {segment}, page {page}"
-    ))?;
-    answers(rt, heap, storage, plan, tag, true, number, path).note(format_args!(
-        "segment {segment}, page {page}, long-stop bit on"
-    ))
+    answers(rt, heap, storage, plan, tag, false, number, path, setting)?;
+    answers(rt, heap, storage, plan, tag, true, number, path, setting)
 }
 
 // The walk that goes round entries 15 and 16, with the long-stop bit off and on: the number of the refusal, and how many
@@ -168,14 +173,17 @@ fn walks<F: PageForm, S: ReadStorage>(
     heap: Global,
     storage: &S,
     plan: &SettledPlan<F>,
+    setting: &str,
 ) -> Result<(), Fail> {
     for case in CASES {
-        answers_as_listed(rt, heap, storage, plan, case)?;
+        answers_as_listed(rt, heap, storage, plan, case, setting)?;
     }
     for (long_stop, number, count) in ROUNDS {
         let path = round(heap, count)?;
         let tag = virtual_page(0, 15);
-        answers(rt, heap, storage, plan, tag, long_stop, number, &path)?;
+        answers(
+            rt, heap, storage, plan, tag, long_stop, number, &path, setting,
+        )?;
     }
     Ok(())
 }
@@ -193,9 +201,9 @@ fn at_base<F: PageForm + Copy>(
     let mut bytes = vec![in heap; 0u8; plan.storage_bytes() as usize]?;
     let mut board = RamBoard::new(&mut bytes);
     put_table::<F, RamBoard>(rt, &mut board, start)?;
-    walks(rt, heap, &board, &plan)?;
+    walks(rt, heap, &board, &plan, "reserved bits are off")?;
     turn_reserved_bits_on::<F, RamBoard>(rt, &mut board, start, 32)?;
-    walks(rt, heap, &board, &plan).note("reserved bits are on")
+    walks(rt, heap, &board, &plan, "reserved bits are on")
 }
 
 // Every walk comes to the same at each base, be it the lowest or the highest, whatever the reserved bits are. The table of
@@ -227,9 +235,8 @@ fn held_in<F: PageForm, S: Storage>(
         let tag = virtual_page(segment, page);
         put_entry::<F, S>(rt, storage, 0, 20, tag, link_word(true, 0))?;
         storage.write(word_number(rt, 0, 20, 0), word0, 15)?;
-        answers(rt, heap, storage, plan, tag, false, number, &[20]).note(format_args!(
-            "page {page}"
-        ))?;
+        let setting = "only entry 20";
+        answers(rt, heap, storage, plan, tag, false, number, &[20], setting)?;
     }
     Ok(())
 }

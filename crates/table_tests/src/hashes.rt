@@ -46,9 +46,7 @@ fn start_at<F: PageForm, S: Storage>(
         let tag = virtual_page(*segment, *page);
         for long_stop in [false, true] {
             let outcome = find_page(storage, plan, tag, long_stop);
-            comes_to(rt, outcome, tag, 9, &[*anchor]).note(format_args!(
-                "segment {segment}, page {page}"
-            ))?;
+            comes_to(rt, outcome, tag, long_stop, 9, &[*anchor], "the hash");
         }
     }
     Ok(())
@@ -155,9 +153,11 @@ fn the_longest_table(rt: HostRuntime) -> Result<(), Fail> {
             &rt,
             find_page(&board, &plan, tag, long_stop),
             tag,
+            long_stop,
             number,
             &path,
-        )?;
+            "the longest table",
+        );
     }
     Ok(())
 }

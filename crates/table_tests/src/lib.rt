@@ -1,3 +1,5 @@
+#![tactic(auto)]
+
 // Tests of the page table: what the words of an entry say, and what a walk of the table answers, in both page forms. What
 // each test expects is worked out by hand from the rule that its comment states.
 #[cfg(test)]

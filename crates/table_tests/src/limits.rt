@@ -58,9 +58,8 @@ fn whole_table<F: PageForm + Copy>(
     ] {
         put_entry::<F, RamBoard>(rt, &mut board, 0, 0, in_chain(0), link_word(last, next))?;
         let tag = in_chain(entry);
-        answers(rt, heap, &board, &plan, tag, false, number, &path).note(format_args!(
-            "{pages} pages, last {last}, pointer {next}"
-        ))?;
+        let setting = format!(in heap; "{pages} pages, last {last}, pointer {next}")?;
+        answers(rt, heap, &board, &plan, tag, false, number, &path, &setting)?;
     }
     Ok(())
 }
@@ -119,8 +118,13 @@ fn long_chains<F: PageForm + Copy>(
         let path_off = down_to(heap, 128, lowest_off)?;
         for _ in 0..2 {
             let tag = in_chain(entry);
-            answers(rt, heap, &board, &plan, tag, true, number_on, &path_on)?;
-            answers(rt, heap, &board, &plan, tag, false, number_off, &path_off)?;
+            let setting = "128 pages";
+            answers(
+                rt, heap, &board, &plan, tag, true, number_on, &path_on, setting,
+            )?;
+            answers(
+                rt, heap, &board, &plan, tag, false, number_off, &path_off, setting,
+            )?;
             turn_reserved_bits_on::<F, RamBoard>(rt, &mut board, 0, 128)?;
         }
     }
@@ -153,7 +157,10 @@ fn round_one_entry<F: PageForm, S: Storage>(
     ] {
         let path = vec![in heap; 3u16; count]?;
         let tag = in_chain(entry);
-        answers(rt, heap, storage, plan, tag, long_stop, number, &path)?;
+        let setting = "an entry that points to itself";
+        answers(
+            rt, heap, storage, plan, tag, long_stop, number, &path, setting,
+        )?;
     }
     Ok(())
 }

@@ -33,8 +33,8 @@ fn any_two<F: PageForm + Copy>(
                     asked(other),
                     long_stop,
                 );
-                comes_as_listed(rt, first, one)?;
-                comes_as_listed(rt, second, other)?;
+                comes_as_listed(rt, first, one, long_stop, "first of two");
+                comes_as_listed(rt, second, other, long_stop, "second of two");
             }
         }
     }
@@ -42,8 +42,8 @@ fn any_two<F: PageForm + Copy>(
         let tag = virtual_page(0, 15);
         let path = round(heap, count)?;
         let (first, second) = find_both_pages(&board, &plan, tag, tag, long_stop);
-        comes_to(rt, first, tag, number, &path)?;
-        comes_to(rt, second, tag, number, &path)?;
+        comes_to(rt, first, tag, long_stop, number, &path, "first of two");
+        comes_to(rt, second, tag, long_stop, number, &path, "second of two");
     }
     Ok(())
 }
@@ -68,16 +68,16 @@ fn in_two<F: PageForm, S: Storage, T: Storage>(
     for listed in CASES {
         for long_stop in [false, true] {
             let (first, second) = find_in_both(one, other, plan, asked(listed), long_stop);
-            comes_as_listed(rt, first, listed)?;
-            comes_as_listed(rt, second, listed)?;
+            comes_as_listed(rt, first, listed, long_stop, "first of two");
+            comes_as_listed(rt, second, listed, long_stop, "second of two");
         }
     }
     for (long_stop, number, count) in ROUNDS {
         let tag = virtual_page(0, 15);
         let path = round(heap, count)?;
         let (first, second) = find_in_both(one, other, plan, tag, long_stop);
-        comes_to(rt, first, tag, number, &path)?;
-        comes_to(rt, second, tag, number, &path)?;
+        comes_to(rt, first, tag, long_stop, number, &path, "first of two");
+        comes_to(rt, second, tag, long_stop, number, &path, "second of two");
     }
     Ok(())
 }

@@ -47,8 +47,19 @@ fn cut_to<F: PageForm>(
 ) -> Result<(), Fail> {
     assert!(rt; words <= 128 && bytes.len() == 512);
     let board = RamBoard::new(&mut bytes[0..4 * words]);
-    answers_as_listed(rt, heap, &board, plan, case).note(format_args!("{words} words"))?;
-    answers(rt, heap, &board, behind, asked(case), false, 16, &[])
+    let setting = format!(in heap; "{words} words")?;
+    answers_as_listed(rt, heap, &board, plan, case, &setting)?;
+    answers(
+        rt,
+        heap,
+        &board,
+        behind,
+        asked(case),
+        false,
+        16,
+        &[],
+        "a table behind the storage",
+    )
 }
 
 // A table of 32 entries has 512 bytes. With base 1 it starts at byte 512.

@@ -133,25 +133,46 @@ pub(crate) fn turn_reserved_bits_on<F: PageForm, S: Storage>(
 }
 
 // Checks what came of a walk: the number of its refusal, 0 where the page is found, after it compared these entries. Their
-// count is the count of the outcome, and the last of them the entry that is found, or that was compared last.
+// count is the count of the outcome, and the last of them the entry that is found, or that was compared last. A failure tells
+// the setting and what the walk asked for.
 pub(crate) fn comes_to(
     rt: &impl Abort,
     outcome: Result<Found, SearchFault>,
     tag: Tag,
+    long_stop: bool,
     number: u8,
     path: &[u16],
-) -> Result<(), Fail> {
+    setting: &str,
+) {
+    let Tag { segment, page } = tag;
     let (given, compared, last) = match outcome {
         Ok(found) => {
-            assert_eq!(rt; found.page, page_of(found.entry, tag));
+            let expected = page_of(found.entry, tag);
+            assert_eq!(rt;
+                found.page,
+                expected,
+                "{setting}: segment {segment}, page {page}, long-stop bit {long_stop}"
+            );
             (0, found.compared, Some(found.entry))
         }
         Err(fault) => (fault.refusal.number(), fault.compared, fault.last),
     };
-    assert_eq!(rt; given, number);
-    assert_eq!(rt; usize::from(compared), path.len());
-    assert_eq!(rt; last, path.last().copied());
-    Ok(())
+    assert_eq!(rt;
+        given,
+        number,
+        "{setting}: segment {segment}, page {page}, long-stop bit {long_stop}"
+    );
+    let count = usize::from(compared);
+    assert_eq!(rt;
+        count,
+        path.len(),
+        "{setting}: segment {segment}, page {page}, long-stop bit {long_stop}"
+    );
+    assert_eq!(rt;
+        last,
+        path.last().copied(),
+        "{setting}: segment {segment}, page {page}, long-stop bit {long_stop}"
+    );
 }
 
 // Checks a walk, and the list of the entries that it compares.
@@ -164,12 +185,19 @@ pub(crate) fn answers<F: PageForm, S: ReadStorage>(
     long_stop: bool,
     number: u8,
     path: &[u16],
+    setting: &str,
 ) -> Result<(), Fail> {
+    let Tag { segment, page } = tag;
     let outcome = find_page(storage, plan, tag, long_stop);
-    comes_to(rt, outcome, tag, number, path)?;
+    comes_to(rt, outcome, tag, long_stop, number, path, setting);
     let trace = trace_page(heap, storage, plan, tag, long_stop)?;
-    comes_to(rt, trace.outcome, tag, number, path)?;
-    assert_eq!(rt; trace.entries.as_slice(), path);
+    comes_to(rt, trace.outcome, tag, long_stop, number, path, setting);
+    let entries = trace.entries.as_slice();
+    assert_eq!(rt;
+        entries,
+        path,
+        "{setting}: segment {segment}, page {page}, long-stop bit {long_stop}"
+    );
     Ok(())
 }
 

@@ -1,3 +1,5 @@
+#![tactic(auto)]
+
 // The twenty trials on every board and in both page forms, with the whole of what comes of each.
 #[cfg(test)]
 mod boards;

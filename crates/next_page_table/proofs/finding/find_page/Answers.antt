@@ -10,9 +10,9 @@ returns g c =
     let f = g.F.PageForm.sizes in
     let ws = g.S.ReadStorage.words c.args.storage.now in
     let plan = c.args.plan.now in
-    let q = query_of f plan.exponent (g.F.PageForm.base plan.base) c.args.long-stop c.args.tag in
-    let is : c.find-entry.result ≡ found_in f ws q =
-    c.find-entry.ensures ∙ ap (λ (x : Query). found_in f ws x) c.query-in.ensures.is
+    let q = query_of f plan.exponent (g.F.PageForm.base plan.base) c.args.long_stop c.args.tag in
+    let is : c.find_entry.result ≡ found_in f ws q =
+    c.find_entry.ensures ∙ ap (λ (x : Query). found_in f ws x) c.query_in.ensures.is
     in
     let P : Outcome → Type 0 = λ r. Well f ws q r in
     let Q : Outcome → Type 0 = λ r. Walked f ws q r in

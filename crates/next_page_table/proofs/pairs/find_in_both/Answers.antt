@@ -9,8 +9,8 @@ returns g c =
     let plan = c.args.plan.now in
     let pages = pages_bounded g.F.PageForm.sizes plan.exponent form.wide form.whole plan.large plan.small in
     record {
-      first = c.find-page.ensures.is;
-      second = c.find-page-2.ensures.is;
+      first = c.find_page.ensures.is;
+      second = c.find_page-2.ensures.is;
       alike = λ same.
-          c.find-page.ensures.is ∙ searched_alike _ _ _ _ (omega (arith, pages.0)) same ∙ sym c.find-page-2.ensures.is;
+          c.find_page.ensures.is ∙ searched_alike _ _ _ _ (omega (arith, pages.0)) same ∙ sym c.find_page-2.ensures.is;
     }

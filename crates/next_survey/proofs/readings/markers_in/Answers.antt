@@ -11,7 +11,7 @@ loop-j-preserved c =
     c.loop-j.j
     (vec_items c.loop-j.markers)
     (vec_items c.push.new.self)
-    c.in-ok-marker.marker
+    c.in_ok-marker.marker
     c.loop-j.invariant
     (search rules)
     (search rules)

@@ -7,8 +7,8 @@ loop-call-preserved g c =
     let same = c.loop-call.invariant.2 in (
       search rules,
       search rules,
-      c.carry-out-reply.ensures.plan ∙ same,
-      c.carry-out-reply.ensures.lenders ∙ c.loop-call.invariant.3,
+      c.carry_out-reply.ensures.plan ∙ same,
+      c.carry_out-reply.ensures.lenders ∙ c.loop-call.invariant.3,
       going_more
           g.F.PageForm.sizes
           _
@@ -31,10 +31,10 @@ loop-call-preserved g c =
           (ap (λ plan. plan.exponent) same)
           (ap (λ plan. g.F.PageForm.base plan.base) same)
           c.loop-call-test.true
-          c.carry-out-reply.ensures.reply
-          c.carry-out-reply.ensures.state
-          c.carry-out-reply.ensures.words
-          c.push-reserved.ensures.items,
+          c.carry_out-reply.ensures.reply
+          c.carry_out-reply.ensures.state
+          c.carry_out-reply.ensures.words
+          c.push_reserved.ensures.items,
     )
 
 pub returns : goal.returns

@@ -1,6 +1,6 @@
 use Rattle.std.proofs.lemmas.Slice.Eq.{slice_eq-Decides}
 use Rattle.survey.proofs.agreement.agree.Goals as goal
-use Rattle.std.proofs.lemmas.Bool.Decides.{Decides-eqb}
+use Rattle.survey.proofs.Sameness.{same_marker-Decides}
 
 pub returns : goal.returns
-returns c = slice_eq-Decides Decides-eqb _ _ _ c.eq.ensures
+returns c = slice_eq-Decides same_marker-Decides _ _ _ c.eq.ensures

@@ -9,7 +9,7 @@ loop-page-preserved g c =
     c.loop-page.page
     (vec_items c.loop-page.marks)
     (vec_items c.push.new.self)
-    c.in-ok-mark.mark
+    c.in_ok-mark.mark
     c.loop-page.invariant
     (search rules)
     (search rules)

@@ -18,10 +18,10 @@ loop-site-preserved g c =
           no_site
           (vec_items c.loop-site.markers)
           (vec_items c.push.new.self)
-          c.in-ok-marker.marker
+          c.in_ok-marker.marker
           c.loop-site-test.true
           c.loop-site.invariant.0
-          (c.in-ok-marker.ensures.answer ∙ ap (λ plan. marker_read plan.exponent ws address) c.loop-site.invariant.1)
+          (c.in_ok-marker.ensures.answer ∙ ap (λ plan. marker_read plan.exponent ws address) c.loop-site.invariant.1)
           (search rules),
       search rules,
       used_more
@@ -30,13 +30,13 @@ loop-site-preserved g c =
           ws
           c.args.unit.now.state
           c.loop-site.unit.state
-          c.read-marker.new.unit.state
+          c.read_marker.new.unit.state
           c.args.sites.now
           c.loop-site.site-index
           no_site
           c.loop-site-test.true
           c.loop-site.invariant.2
-          (c.read-marker.ensures.state ∙ ap (λ plan. marker_used f plan.exponent ws address c.loop-site.unit.state) c.loop-site.invariant.1),
+          (c.read_marker.ensures.state ∙ ap (λ plan. marker_used f plan.exponent ws address c.loop-site.unit.state) c.loop-site.invariant.1),
     )
 
 pub returns : goal.returns

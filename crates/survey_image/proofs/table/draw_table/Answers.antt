@@ -11,8 +11,8 @@ loop-page-init g c = (refl, refl)
 pub loop-page-preserved : goal.loop-page-preserved
 loop-page-preserved g c =
     let plan = c.args.plan.now in
-    let size : 2 ^ plan.exponent ≡ 65536 = sym c.storage-bytes.ensures ∙ c.if-storage-bytes-ne65536.false in (
-      table_more g.F.PageForm.sizes (g.F.PageForm.base plan.base) plan.exponent _ _ _ c.loop-page.page c.table-start.result.start.number c.table-block.result size c.table-start.ensures.start c.loop-page.invariant.0 c.table-block.ensures c.draw.ensures.after,
+    let size : 2 ^ plan.exponent ≡ 65536 = sym c.storage_bytes.ensures ∙ c.if-storage_bytes-ne65536.false in (
+      table_more g.F.PageForm.sizes (g.F.PageForm.base plan.base) plan.exponent _ _ _ c.loop-page.page c.table-start.result.start.number c.table_block.result size c.table-start.ensures.start c.loop-page.invariant.0 c.table_block.ensures c.draw.ensures.after,
       c.draw.ensures.lenders ∙ c.loop-page.invariant.1,
     )
 
@@ -20,17 +20,17 @@ pub returns : goal.returns
 returns g c =
     let plan = c.args.plan.now in
     let ws = g.S.ReadStorage.words c.args.storage.now in
-    let size : 2 ^ plan.exponent ≡ 65536 = sym c.storage-bytes.ensures ∙ c.if-storage-bytes-ne65536.false in
+    let size : 2 ^ plan.exponent ≡ 65536 = sym c.storage_bytes.ensures ∙ c.if-storage_bytes-ne65536.false in
     let count : length ws ≡ 16384 = sym c.count.ensures ∙ c.if-count-ne16384.false in
     let sized : has_image_size plan.exponent ws ≡ true =
     and_from (eqb (2 ^ plan.exponent) 65536) (eqb (length ws) 16384) (eq-eqb _ _ size) (eq-eqb _ _ count)
     in
-    let last : c.loop-page.page ≡ c.page-count-page-end.result = omega arith in
+    let last : c.loop-page.page ≡ c.page_count-page-end.result = omega arith in
     record {
       answer = sym (cond-true (has_image_size plan.exponent ws) _ _ sized);
       after =
           c.loop-page.invariant.0
-          ∙ ap (table_drawn g.F.PageForm.sizes (g.F.PageForm.base plan.base) ws) (last ∙ c.page-count-page-end.ensures.is)
+          ∙ ap (table_drawn g.F.PageForm.sizes (g.F.PageForm.base plan.base) ws) (last ∙ c.page_count-page-end.ensures.is)
           ∙ sym (cond-true (has_image_size plan.exponent ws) _ _ sized);
       lenders = c.loop-page.invariant.1;
     }

@@ -6,8 +6,8 @@ use Rattle.boards.proofs.ram.RamBoardStorage.write.Goals as goal
 pub returns : goal.returns
 returns c = search (rules, length-tabulated, ram_written)
 
-pub returns-then-n-words-in : goal.returns-then-n-words-in
-returns-then-n-words-in c = search (rules, length-tabulated)
+pub returns-then-n-words_in : goal.returns-then-n-words_in
+returns-then-n-words_in c = search (rules, length-tabulated)
 
 pub returns-then-mask-gt15 : goal.returns-then-mask-gt15
 returns-then-mask-gt15 c = search (rules, length-tabulated)

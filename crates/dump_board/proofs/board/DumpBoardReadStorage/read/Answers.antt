@@ -5,5 +5,5 @@ use Rattle.dump_board.proofs.board.DumpBoardReadStorage.read.Goals as goal
 pub returns : goal.returns
 returns c = search (rules, length-tabulated, tabulated_at)
 
-pub returns-then-n-word-count : goal.returns-then-n-word-count
-returns-then-n-word-count c = search (rules, length-tabulated)
+pub returns-then-n-word_count : goal.returns-then-n-word_count
+returns-then-n-word_count c = search (rules, length-tabulated)

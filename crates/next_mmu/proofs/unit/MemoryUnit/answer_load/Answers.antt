@@ -5,8 +5,8 @@ use Rattle.unit_state.proofs.Soundness.{Sound}
 use Rattle.unit_state.proofs.Locating.{sound_loaded, sound_noted}
 use Rattle.next_mmu.proofs.unit.MemoryUnit.answer_load.Goals as goal
 
-pub invariant-of-self : goal.invariant-of-self
-invariant-of-self g c =
+pub invariant_of-self : goal.invariant_of-self
+invariant_of-self g c =
     let unit = c.args.self.now in
     let plan = unit.plan in
     let form = g.met.F.PageForm in
@@ -14,7 +14,10 @@ invariant-of-self g c =
     let words = g.S.ReadStorage.words c.args.storage.now in
     let pages = pages_bounded sizes plan.exponent form.wide form.whole plan.large plan.small in
     let sound : Sound unit.state = (unit.whole, (unit.narrow, (unit.unique, (unit.near, tt)))) in
-    let used : Sound c.load-at-answer.new.self =
-    subst Sound (sym c.load-at-answer.ensures.state) (sound_loaded sizes plan.exponent (g.F.PageForm.base plan.base) words unit.state c.args.width c.args.address pages.1 sound)
+    let used : Sound c.load_at-answer.new.self =
+    subst Sound (sym c.load_at-answer.ensures.state) (sound_loaded sizes plan.exponent (g.F.PageForm.base plan.base) words unit.state c.args.width c.args.address pages.1 sound)
     in
-    subst Sound (sym c.note.ensures) (sound_noted c.load-at-answer.new.self c.load-at-answer.result c.args.address Load used)
+    let kept : Sound c.note.new.self =
+    subst Sound (sym c.note.ensures) (sound_noted c.load_at-answer.new.self c.load_at-answer.result c.args.address Load used)
+    in
+    record { whole = kept.0; narrow = kept.1.0; unique = kept.1.1.0; near = kept.1.1.1.0 }

@@ -16,17 +16,17 @@ returns g c =
     let k = unit.plan.exponent in
     let b = g.F.PageForm.base unit.plan.base in
     let ws = g.S.ReadStorage.words c.args.storage.now in
-    let answer : c.answer-load.result ≡ load_answer f k b ws unit.state c.args.width c.args.address = c.answer-load.ensures.answer in
-    let state : c.answer-load.new.self.state ≡ after_load f k b ws unit.state c.args.width c.args.address =
-    c.answer-load.ensures.state ∙ ap (λ (r : Answer). noted_in (used_by_load f k b ws unit.state c.args.width c.args.address) r c.args.address Load) answer
+    let answer : c.answer_load.result ≡ load_answer f k b ws unit.state c.args.width c.args.address = c.answer_load.ensures.answer in
+    let state : c.answer_load.new.self.state ≡ after_load f k b ws unit.state c.args.width c.args.address =
+    c.answer_load.ensures.state ∙ ap (λ (r : Answer). noted_in (used_by_load f k b ws unit.state c.args.width c.args.address) r c.args.address Load) answer
     in
     let P : Answer → Type 0 = λ r. LoadLaws f k b ws unit.state c.args.width c.args.address r (after_load f k b ws unit.state c.args.width c.args.address) in
-    let Q : UnitState → Type 0 = λ s. LoadLaws f k b ws unit.state c.args.width c.args.address c.answer-load.result s in
+    let Q : UnitState → Type 0 = λ s. LoadLaws f k b ws unit.state c.args.width c.args.address c.answer_load.result s in
     record {
       answer = answer;
       state = state;
-      plan = c.answer-load.ensures.plan;
-      bytes = c.answer-load.ensures.bytes;
+      plan = c.answer_load.ensures.plan;
+      bytes = c.answer_load.ensures.bytes;
       laws = λ agrees.
           subst Q (sym state) (subst P (sym answer) (load_laws f k b ws unit.state c.args.width c.args.address (record { wide = form.wide; whole = form.whole; large = unit.plan.large }) agrees));
     }

@@ -6,5 +6,5 @@ pub returns : goal.returns
 returns g c =
     record {
       plan = refl;
-      state = powered_on_lem _ _ _ _ c.absent-segments.ensures c.empty.ensures c.none.ensures c.unmarked-pages.ensures;
+      state = powered_on_lem _ _ _ _ c.absent_segments.ensures c.empty.ensures c.none.ensures c.unmarked_pages.ensures;
     }

@@ -17,17 +17,17 @@ returns g c =
     let s = unit.state in
     let w = c.args.width in
     let ws = g.S.ReadStorage.words c.args.storage.now in
-    let vs = g.S.ReadStorage.words c.answer-store.new.storage in
+    let vs = g.S.ReadStorage.words c.answer_store.new.storage in
     let pages = pages_bounded f k form.wide form.whole unit.plan.large unit.plan.small in
     let P : Answer → Type 0 = λ r. StoreLaws f k b ws vs s w c.args.address c.args.value r (after_store f k b ws s w c.args.address c.args.value) in
-    let Q : UnitState → Type 0 = λ after. StoreLaws f k b ws vs s w c.args.address c.args.value c.answer-store.result after in
+    let Q : UnitState → Type 0 = λ after. StoreLaws f k b ws vs s w c.args.address c.args.value c.answer_store.result after in
     record {
-      answer = c.answer-store.ensures.answer;
-      state = c.answer-store.ensures.state;
-      plan = c.answer-store.ensures.plan;
-      words = c.answer-store.ensures.words;
-      bytes = c.answer-store.ensures.bytes;
+      answer = c.answer_store.ensures.answer;
+      state = c.answer_store.ensures.state;
+      plan = c.answer_store.ensures.plan;
+      words = c.answer_store.ensures.words;
+      bytes = c.answer_store.ensures.bytes;
       laws = λ agrees.
-          subst Q (sym c.answer-store.ensures.state) (subst P (sym c.answer-store.ensures.answer) (store_laws f k b ws vs s w c.args.address c.args.value (record { wide = form.wide; whole = form.whole; large = unit.plan.large }) (omega (arith, pages.0)) agrees));
-      lenders = c.answer-store.ensures.lenders;
+          subst Q (sym c.answer_store.ensures.state) (subst P (sym c.answer_store.ensures.answer) (store_laws f k b ws vs s w c.args.address c.args.value (record { wide = form.wide; whole = form.whole; large = unit.plan.large }) (omega (arith, pages.0)) agrees));
+      lenders = c.answer_store.ensures.lenders;
     }

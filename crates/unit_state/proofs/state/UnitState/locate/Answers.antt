@@ -6,9 +6,9 @@ pub returns-in-Some : goal.returns-in-Some
 unfolding located buffers_after
 returns-in-Some g c = search rules
 
-pub returns-in-err-found : goal.returns-in-err-found
+pub returns-in_err-found : goal.returns-in_err-found
 unfolding located buffers_after
-returns-in-err-found g c = search rules
+returns-in_err-found g c = search rules
 
 pub returns : goal.returns
 unfolding located buffers_after
