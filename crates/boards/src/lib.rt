@@ -1,3 +1,5 @@
+#![tactic(auto)]
+
 pub mod interleaved;
 pub mod ram;
 pub mod stacked;

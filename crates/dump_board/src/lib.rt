@@ -1,2 +1,4 @@
+#![tactic(auto)]
+
 pub mod board;
 pub mod directory;

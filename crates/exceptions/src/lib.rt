@@ -1,2 +1,4 @@
+#![tactic(auto)]
+
 pub mod raising;
 pub mod registers;

@@ -1,2 +1,4 @@
+#![tactic(auto)]
+
 pub mod access;
 pub mod width;

@@ -1,3 +1,5 @@
+#![tactic(auto)]
+
 ghost use Rattle.std.specs.Prelude.{◌≡◌, true, IfOk};
 
 mod chains;
@@ -6,11 +8,11 @@ mod report;
 use boards::ram::RamBoard;
 use chains::{Damage, show_chain, show_damage, show_two_pages, show_two_storages};
 use lanes::width::Width;
+use next_survey::calls::marker_calls;
+use next_survey::findings::Findings;
 use next_survey::on_boards::{
     IMAGE_BYTES, on_dump_board, on_interleaved_banks, on_ram_board, on_stacked_banks,
 };
-use next_survey::calls::marker_calls;
-use next_survey::findings::Findings;
 use next_survey::readings::markers_in;
 use next_survey::trouble::Trouble;
 use paging::address::RealAddress;

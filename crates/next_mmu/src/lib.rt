@@ -1,3 +1,5 @@
+#![tactic(auto)]
+
 pub mod exception_registers;
 pub mod marks;
 pub mod power;

@@ -51,13 +51,8 @@ fn answers<F: PageForm + Copy, S: Storage>(
     unit.write_segment(2, ordinary(2, true))?;
     unit.write_segment(3, special(0xabc))?;
     for (register, page, place, width, step, number, value) in REQUESTS {
-        let answer = ask(
-            &mut unit,
-            storage,
-            at::<F>(register, page, place),
-            width,
-            step,
-        );
+        let address = at::<F>(register, page, place);
+        let answer = ask(&mut unit, storage, address, width, step);
         assert_eq!(rt;
             answer_number(&answer),
             number,

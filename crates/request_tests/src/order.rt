@@ -235,13 +235,8 @@ fn marks<F: PageForm + Copy, S: Storage>(
         (3, 0x30, Step::Load, 0, 5, STORED),
         (2, 0x30, Step::Load, 13, 5, STORED),
     ] {
-        let answer = ask(
-            &mut unit,
-            storage,
-            at::<F>(register, page, 1),
-            Width::Byte,
-            step,
-        );
+        let address = at::<F>(register, page, 1);
+        let answer = ask(&mut unit, storage, address, Width::Byte, step);
         assert_eq!(rt; answer_number(&answer), number);
         only_marked(rt, &unit, pages, &[(real_page, mark)]);
     }

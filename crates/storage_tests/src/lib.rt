@@ -1,3 +1,5 @@
+#![tactic(auto)]
+
 // Tests of the storage boards through their public functions. What they expect is worked out by hand from the rules.
 #[cfg(test)]
 mod cases;

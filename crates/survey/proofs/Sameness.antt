@@ -36,8 +36,8 @@ same_marker-Decides a b =
           let two = and_parts (pointwise eqb a.name b.name) (eqb a.easting b.easting) both.0 in
           (rest_decides a b (names.0 two.0) (eqb-true _ _ two.1)).0 both.1,
       λ e. and_from
-      _
-      _
-      (and_from _ _ (names.1 (ap (λ (m : Marker). m.name) e)) (eq-eqb _ _ (ap (λ (m : Marker). m.easting) e)))
-      (eq-eqb _ _ (ap (λ (m : Marker). m.northing) e)),
+          _
+          _
+          (and_from _ _ (names.1 (ap (λ (m : Marker). m.name) e)) (eq-eqb _ _ (ap (λ (m : Marker). m.easting) e)))
+          (eq-eqb _ _ (ap (λ (m : Marker). m.northing) e)),
     )

@@ -1,3 +1,5 @@
+#![tactic(auto)]
+
 pub mod agreement;
 pub mod block;
 pub mod drawing;

@@ -1,2 +1,4 @@
+#![tactic(auto)]
+
 pub mod buffers;
 pub mod lookup;

@@ -1,3 +1,5 @@
+#![tactic(auto)]
+
 use boards::ram::RamBoard;
 use paging::form::Form2K;
 use refusals::refusal::Refusal;

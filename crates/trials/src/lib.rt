@@ -1,3 +1,5 @@
+#![tactic(auto)]
+
 pub mod bench;
 pub mod image;
 pub mod running;

@@ -1,3 +1,5 @@
+#![tactic(auto)]
+
 pub mod accessing;
 pub mod answer;
 pub mod answers;

@@ -1,3 +1,5 @@
+#![tactic(auto)]
+
 // Tests of the page forms, the plan, the addresses, and of a unit's requests and marks on every board. What each test expects
 // is worked out by hand from the rule that its comment states.
 #[cfg(test)]
