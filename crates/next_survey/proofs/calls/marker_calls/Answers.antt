@@ -13,7 +13,7 @@ loop-n-preserved g c =
     c.loop-n.n
     (vec_items c.loop-n.calls)
     (vec_items c.push.new.self)
-    c.marker-call.result
+    c.marker_call.result
     c.loop-n.invariant
-    c.marker-call.ensures
+    c.marker_call.ensures
     (search rules)
