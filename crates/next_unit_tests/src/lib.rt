@@ -5,7 +5,7 @@
 #[cfg(test)]
 mod addresses;
 #[cfg(test)]
-mod boards;
+mod every_board;
 #[cfg(test)]
 mod forms;
 #[cfg(test)]

@@ -4,11 +4,11 @@
 // buffers keep, and where the accesses land. What each test expects is worked out by hand from the rule that its comment
 // states.
 #[cfg(test)]
-mod boards;
-#[cfg(test)]
 mod buffers;
 #[cfg(test)]
 mod edges;
+#[cfg(test)]
+mod every_board;
 #[cfg(test)]
 mod keys;
 #[cfg(test)]
