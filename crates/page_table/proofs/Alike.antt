@@ -1,5 +1,5 @@
 -- A search depends on the words of the table alone.
-use Rattle.std.proofs.Common.{◌≡◌, ℕ, zero, suc, ◌+◌, ◌*◌, ◌%◌, ◌<◌, ◌≤◌, Bool, true, false, cond, eqb, ltb, List, length, get_or, Some, None, Ok, Err, Result, sym, refl, ap, ◌∙◌, arith}
+use Rattle.std.proofs.Common.{◌≡◌, ℕ, zero, suc, ◌+◌, ◌*◌, ◌<◌, ◌≤◌, Bool, true, false, cond, eqb, ltb, List, Some, None, Ok, Err, Result, refl, ap, ◌∙◌, arith}
 use Rattle.std.proofs.lemmas.Bool.{cond_both, ltb-true}
 use Rattle.std.proofs.lemmas.Bool.Decides.{nat_tests}
 use Rattle.std.proofs.lemmas.Nat.{mod_below}
@@ -13,22 +13,7 @@ use Rattle.page_table.specs.declared.walk.Query.{Query}
 use Rattle.page_table.specs.declared.walk.Turn.{Turn}
 use Rattle.page_table.specs.declared.walk.Turn.TheVariants.{Stop, On}
 use Rattle.page_table.specs.Entry.{tag_of, link_of, anchor_of, entry_of}
-use Rattle.page_table.specs.Search.{
-  Outcome,
-  fails,
-  read_then,
-  same_tag,
-  followed,
-  place_of,
-  matched,
-  judged,
-  turned,
-  gone_on,
-  chain,
-  anchored,
-  hash_of,
-  searched,
-}
+use Rattle.page_table.specs.Search.{Outcome, fails, read_then, same_tag, followed, place_of, turned, gone_on, chain, anchored, hash_of, searched}
 use Rattle.page_table.specs.Laws.{AlikeTables}
 
 -- a turn goes on only to an entry of the table

@@ -1,8 +1,7 @@
 -- What holds of any two searches.
-use Rattle.std.specs.Prelude.{◌≡◌, ℕ, ◌+◌, ◌*◌, ◌<◌, ◌≤◌, List, length, Ok, Err, Result, slice_index}
+use Rattle.std.specs.Prelude.{◌≡◌, ℕ, ◌+◌, ◌*◌, ◌<◌, ◌≤◌, List, length, Ok, Err, slice_index}
 use Rattle.page_table.specs.declared.entry.Tag.{Tag}
 use Rattle.page_table.specs.declared.walk.Query.{Query}
-use Rattle.page_table.specs.declared.walk.Found.{Found}
 use Rattle.page_table.specs.Search.{Outcome}
 
 -- Searches for two virtual pages do not find one entry: a real page never answers to two virtual pages.
