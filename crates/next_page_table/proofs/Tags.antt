@@ -1,5 +1,5 @@
 -- Equality of tags as the code tests it.
-use Rattle.std.proofs.Common.{◌≡◌, ℕ, true, eqb, refl, ap, ◌∙◌}
+use Rattle.std.proofs.Common.{◌≡◌, ℕ, true, eqb, ap, ◌∙◌}
 use Rattle.std.proofs.lemmas.Bool.{and_parts, and_from, eqb-true, eq-eqb}
 use Rattle.next_page_table.specs.declared.entry.Tag.{Tag}
 use Rattle.next_page_table.specs.Search.{same_tag}

@@ -1,5 +1,5 @@
 -- What holds of walks, whatever the table.
-use Rattle.std.specs.Prelude.{◌≡◌, ℕ, zero, suc, ◌+◌, ◌*◌, ◌<◌, ◌≤◌, Bool, true, false, ◌⊎◌, List, length, Some, None, Ok, Err, Result, slice_index}
+use Rattle.std.specs.Prelude.{◌≡◌, ℕ, zero, suc, ◌+◌, ◌*◌, ◌<◌, ◌≤◌, Bool, true, false, ◌⊎◌, List, length, Some, None, Ok, Err, slice_index}
 use Rattle.refusals.specs.declared.refusal.Refusal.TheVariants.{WordOutside}
 use Rattle.paging.specs.declared.geometry.PageGeometry.{PageGeometry}
 use Rattle.next_page_table.specs.declared.entry.Tag.{Tag}

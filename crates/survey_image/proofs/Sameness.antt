@@ -1,6 +1,6 @@
 -- When two markers are the same.
 use Rattle.std.specs.Cmp.Lexicographic.{pointwise}
-use Rattle.std.proofs.Common.{◌&&◌, refl, ◌≡◌, ℕ, true, false, eqb, List, Decides, ap, ◌∙◌}
+use Rattle.std.proofs.Common.{◌&&◌, refl, ◌≡◌, ℕ, false, eqb, List, Decides, ap, ◌∙◌}
 use Rattle.std.proofs.lemmas.Bool.{eqb-true, eq-eqb, false≢true, and_parts, and_from}
 use Rattle.std.proofs.lemmas.Bool.Decides.{Decides-eqb}
 use Rattle.std.proofs.lemmas.Slice.Eq.{slice_eq-Decides}

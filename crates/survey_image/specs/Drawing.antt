@@ -1,5 +1,5 @@
 -- Blocks written into a storage.
-use Rattle.std.specs.Prelude.{ℕ, zero, suc, ◌+◌, ◌*◌, Bool, cond, ◌&&◌, List, [], ◌∷◌, length, set, Ok, Err, Result, ◌==◌, nat_lt, slice_index, slice_set}
+use Rattle.std.specs.Prelude.{ℕ, zero, suc, ◌+◌, Bool, cond, ◌&&◌, List, [], ◌∷◌, length, set, Ok, Err, Result, ◌==◌, nat_lt, slice_index, slice_set}
 use Rattle.refusals.specs.declared.refusal.Refusal.{Refusal}
 use Rattle.refusals.specs.declared.refusal.Refusal.TheVariants.{WordOutside, SizeDiffers}
 use Rattle.paging.specs.declared.geometry.PageGeometry.{PageGeometry}

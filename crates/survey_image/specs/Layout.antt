@@ -4,7 +4,6 @@ use Rattle.std.specs.Prelude.{ℕ, ◌+◌, ◌-◌, ◌*◌, ◌/◌, ◌%◌, 
 use Rattle.paging.specs.declared.geometry.PageGeometry.{PageGeometry}
 use Rattle.paging.specs.Plan.{page_count, table_start}
 use Rattle.survey_image.specs.declared.block.Block.{Block}
-use Rattle.survey_image.specs.declared.marker.Marker.{Marker}
 use Rattle.survey_image.specs.declared.marker.Site.{Site}
 
 abbrev pub virtual_page : PageGeometry → ℕ → ℕ

@@ -1,5 +1,5 @@
 -- The look-aside buffers.
-use Rattle.std.specs.Prelude.{◌≡◌, ℕ, ◌%◌, ◌<◌, Bool, true, false, cond, List, [], ◌∷◌, replicate, Some, None, Option, slice_index_or, slice_set}
+use Rattle.std.specs.Prelude.{◌≡◌, ℕ, ◌%◌, ◌<◌, Bool, false, cond, [], ◌∷◌, replicate, Some, None, Option, slice_index_or, slice_set}
 use Rattle.next_page_table.specs.declared.entry.Tag.{Tag}
 use Rattle.next_page_table.specs.Search.{same_tag}
 use Rattle.tlb.specs.declared.buffers.Translation.{Translation}

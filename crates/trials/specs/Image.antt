@@ -8,7 +8,6 @@ use Rattle.paging.specs.declared.geometry.PageGeometry.{PageGeometry}
 use Rattle.paging.specs.Plan.{page_count}
 use Rattle.trials.specs.declared.bench.Target.{Target}
 use Rattle.trials.specs.declared.bench.Target.TheVariants.{Nine, Four, Outside}
-use Rattle.trials.specs.declared.bench.BenchEntry.{BenchEntry}
 use Rattle.trials.specs.declared.bench.Trial.{Trial}
 
 abbrev pub target_of : PageGeometry → Target → ℕ

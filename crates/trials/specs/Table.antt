@@ -1,5 +1,5 @@
 -- The twenty trials, and what comes of the starred ones.
-use Rattle.std.specs.Prelude.{◌≡◌, ℕ, Bool, true, false, List, [], ◌∷◌, map, Some, None, Ok, Err, Option, Result, slice_index_or}
+use Rattle.std.specs.Prelude.{◌≡◌, ℕ, Bool, true, false, List, [], ◌∷◌, map, Some, None, Ok, Err, Option, slice_index_or}
 use Rattle.refusals.specs.declared.refusal.Refusal.{Refusal}
 use Rattle.refusals.specs.declared.refusal.Refusal.TheVariants.{PageFault, LongSearch, EndlessChain, ProtectionRefused, LockRefused}
 use Rattle.paging.specs.declared.geometry.PageGeometry.{PageGeometry}

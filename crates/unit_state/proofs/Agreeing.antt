@@ -6,12 +6,11 @@ use Rattle.paging.specs.declared.address.EffectiveAddress.{EffectiveAddress}
 use Rattle.paging.specs.Plan.{page_count}
 use Rattle.next_page_table.specs.declared.entry.Tag.{Tag}
 use Rattle.next_page_table.specs.declared.walk.Found.{Found}
-use Rattle.next_page_table.specs.Search.{Outcome, query_of, found_in}
+use Rattle.next_page_table.specs.Search.{Outcome, query_of}
 use Rattle.next_page_table.specs.Laws.{Well, AlikeTables}
 use Rattle.next_page_table.proofs.Walks.{searched_well}
 use Rattle.next_page_table.proofs.Alike.{searched_alike}
 use Rattle.protection.specs.declared.access_type.AccessType.{AccessType}
-use Rattle.tlb.specs.declared.buffers.Translation.{Translation}
 use Rattle.unit_state.specs.declared.answer.Fault.{Fault}
 use Rattle.unit_state.specs.declared.state.UnitState.{UnitState}
 use Rattle.unit_state.specs.declared.translation.Place.{Place}

@@ -1,5 +1,5 @@
 -- What the look-aside buffers hold, and what is found, stays sound.
-use Rattle.std.proofs.Common.{◌≡◌, ℕ, ◌<◌, ◌≤◌, Bool, true, false, List, Some, None, Ok, Err, Option, Result, sym, refl, ap, ◌∙◌, subst, arith}
+use Rattle.std.proofs.Common.{◌≡◌, ℕ, ◌<◌, ◌≤◌, Bool, true, false, List, Some, None, Ok, Err, Option, Result, refl, ap, ◌∙◌, subst, arith}
 use Rattle.refusals.specs.declared.refusal.Refusal.{Refusal}
 use Rattle.paging.specs.declared.geometry.PageGeometry.{PageGeometry}
 use Rattle.paging.specs.Plan.{page_count}
@@ -12,8 +12,7 @@ use Rattle.paging.specs.declared.address.EffectiveAddress.{EffectiveAddress}
 use Rattle.lanes.specs.declared.width.Width.{Width}
 use Rattle.protection.specs.declared.access_type.AccessType.{AccessType}
 use Rattle.tlb.specs.declared.buffers.Translation.{Translation}
-use Rattle.tlb.specs.declared.buffers.Buffers.{Buffers}
-use Rattle.tlb.specs.Lookup.{hit_of, looked_up, loaded_with, EachUnique, Each, EachNear}
+use Rattle.tlb.specs.Lookup.{hit_of, looked_up, EachUnique, Each, EachNear}
 use Rattle.tlb.proofs.Entries.{each_looked, each_loaded, hit_each, unique_looked, unique_loaded, miss_looked}
 use Rattle.unit_state.specs.declared.answer.Fault.{Fault}
 use Rattle.unit_state.specs.declared.state.UnitState.{UnitState}

@@ -1,6 +1,6 @@
 -- A request is accepted exactly where the rules let it pass.
-use Rattle.std.proofs.Common.{◌≡◌, ℕ, ◌+◌, ◌*◌, ◌/◌, ◌%◌, ◌^◌, ◌<◌, ◌≤◌, Bool, true, false, cond, eqb, ltb, List, length, is_ok, Some, None, Ok, Err, Option, Result, sym, refl, ap, ◌∙◌, subst, ⊎_elim, mul_comm, add-mul, one-mul, arith}
-use Rattle.std.proofs.lemmas.Bool.{cond-true, cond_both, eqb-true, eq-eqb, lt-ltb, ltb-true, both_ways}
+use Rattle.std.proofs.Common.{◌≡◌, ℕ, ◌+◌, ◌*◌, ◌/◌, ◌<◌, ◌≤◌, Bool, true, false, cond, eqb, ltb, List, length, is_ok, Some, None, Ok, Err, Option, Result, sym, refl, ap, ◌∙◌, subst, ⊎_elim, mul_comm, add-mul, one-mul, arith}
+use Rattle.std.proofs.lemmas.Bool.{cond-true, eqb-true, eq-eqb, lt-ltb, both_ways}
 use Rattle.std.proofs.lemmas.Nat.{mul-le, mod_below}
 use Rattle.refusals.specs.declared.refusal.Refusal.{Refusal}
 use Rattle.refusals.specs.declared.refusal.Refusal.TheVariants.{SizeDiffers, SegmentAbsent, SegmentBarred}
@@ -8,12 +8,11 @@ use Rattle.paging.specs.declared.geometry.PageGeometry.{PageGeometry}
 use Rattle.paging.specs.Address.{offset_of, place_in_page}
 use Rattle.paging.specs.Plan.{storage_bytes, page_count}
 use Rattle.paging.proofs.Pages.{Wide, Whole, pages_whole, page_length}
-use Rattle.next_page_table.specs.declared.walk.Found.{Found}
 use Rattle.next_page_table.specs.Search.{Outcome, query_of}
 use Rattle.next_page_table.specs.Laws.{Well}
 use Rattle.next_page_table.proofs.Walks.{searched_well}
 use Rattle.lanes.specs.declared.width.Width.{Width}
-use Rattle.lanes.specs.Lanes.{value_limit, loaded, load_of, store_of}
+use Rattle.lanes.specs.Lanes.{value_limit, loaded, store_of}
 use Rattle.protection.specs.declared.register.SegmentRegister.{SegmentRegister}
 use Rattle.protection.specs.declared.access_type.AccessType.{AccessType}
 use Rattle.protection.specs.Permission.{permitted}
@@ -22,27 +21,12 @@ use Rattle.unit_state.specs.declared.answer.Fault.{Fault}
 use Rattle.unit_state.specs.declared.state.UnitState.{UnitState}
 use Rattle.unit_state.specs.declared.translation.Place.{Place}
 use Rattle.unit_state.specs.Answers.{Answer}
-use Rattle.unit_state.specs.Translation.{segment_at, tag_at, segment_refusal, entry_refusal, kept_of, found_for, protection_refusal, translated}
+use Rattle.unit_state.specs.Translation.{segment_at, tag_at, segment_refusal, entry_refusal, kept_of, found_for, translated}
 use Rattle.unit_state.specs.Requests.{load_at, store_at}
 use Rattle.unit_state.specs.Laws.{Agrees, Passes, essence, without_buffers}
 use Rattle.tlb.proofs.Entries.{each_empty}
 use Rattle.unit_state.proofs.Inverting.{Leads, translated_leads}
-use Rattle.unit_state.proofs.Plain.{
-  Spot,
-  plain_located,
-  plain_named,
-  plain_place,
-  plain_judged,
-  plain_refused_or,
-  plain_translated,
-  plain_load,
-  plain_store,
-  zeroed,
-  located-plain,
-  translated-plain,
-  load_plain,
-  store-plain,
-}
+use Rattle.unit_state.proofs.Plain.{Spot, plain_located, plain_named, plain_judged, plain_refused_or, plain_translated, plain_load, plain_store, zeroed, located-plain, translated-plain, load_plain, store-plain}
 
 -- the rules of a page form and of an exponent that a plan has
 pub record Planned (f : PageGeometry) (k : ℕ) : Type 0 where

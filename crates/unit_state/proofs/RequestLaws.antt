@@ -1,11 +1,10 @@
 -- The laws of requests, for every settled plan.
-use Rattle.std.proofs.Common.{◌≡◌, ℕ, ◌<◌, ◌≤◌, Bool, true, false, cond, ltb, List, is_ok, Ok, Err, Result, sym, refl, ap, ◌∙◌, subst, arith}
+use Rattle.std.proofs.Common.{◌≡◌, ℕ, ◌<◌, Bool, true, false, cond, ltb, List, Err, Result, sym, refl, ap, ◌∙◌, subst}
 use Rattle.std.proofs.lemmas.Bool.{ltb-true, lt-ltb, both_ways, cond-true, cond-false}
 use Rattle.refusals.specs.declared.refusal.Refusal.TheVariants.{ValueTooWide}
 use Rattle.paging.specs.declared.geometry.PageGeometry.{PageGeometry}
 use Rattle.paging.specs.declared.address.EffectiveAddress.{EffectiveAddress}
 use Rattle.paging.specs.Plan.{page_count}
-use Rattle.paging.proofs.Pages.{pages_bounded}
 use Rattle.next_page_table.specs.declared.entry.Tag.{Tag}
 use Rattle.next_page_table.specs.Search.{query_of}
 use Rattle.next_page_table.specs.Laws.{AlikeTables}
@@ -16,21 +15,8 @@ use Rattle.unit_state.specs.declared.answer.Fault.{Fault}
 use Rattle.unit_state.specs.declared.state.UnitState.{UnitState}
 use Rattle.unit_state.specs.declared.translation.Place.{Place}
 use Rattle.unit_state.specs.Answers.{Answer, uncompared}
-use Rattle.unit_state.specs.Requests.{
-  load_at,
-  store_at,
-  words_at,
-  noted_in,
-  load_place,
-  store_place,
-  used_by_load,
-  used_by_store,
-  load_answer,
-  after_load,
-  store_answer,
-  after_store,
-}
-use Rattle.unit_state.specs.Laws.{Agrees, LoadLaws, StoreLaws, without_buffers, essence}
+use Rattle.unit_state.specs.Requests.{load_at, store_at, noted_in, load_place, store_place, used_by_store, load_answer, after_load, store_answer, after_store}
+use Rattle.unit_state.specs.Laws.{Agrees, LoadLaws, StoreLaws, essence}
 use Rattle.unit_state.proofs.Passing.{Planned, load_passes, load_accepts, load_unseen, store_passes, store-accepts, store_unseen}
 use Rattle.unit_state.proofs.Agreeing.{agrees_after, agrees_alike, long_after}
 

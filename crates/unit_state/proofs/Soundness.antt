@@ -1,5 +1,5 @@
 -- What the unit's type says of its state, and what keeps it.
-use Rattle.std.proofs.Common.{◌≡◌, ℕ, ◌<◌, ◌≤◌, Bool, false, List, length, get_or, set, replicate, sym, refl, ap, ◌∙◌, subst, ⊎_elim, arith, length-set}
+use Rattle.std.proofs.Common.{◌≡◌, ℕ, ◌<◌, ◌≤◌, Bool, false, List, length, get_or, set, replicate, sym, ap, ◌∙◌, subst, ⊎_elim, arith, length-set}
 use lib.ListN.{length-replicate}
 use Rattle.std.proofs.lemmas.Bool.{cases_eq, cases_lt}
 use Rattle.std.proofs.lemmas.List.{get_or-set_same, get_or-set_other, set_past, get_or-replicate, get_or_past}
@@ -12,8 +12,8 @@ use Rattle.exceptions.specs.Raising.{no_exceptions}
 use Rattle.unit_state.specs.declared.state.PageMark.{PageMark}
 use Rattle.unit_state.specs.declared.state.UnitState.{UnitState}
 use Rattle.unit_state.specs.Registers.{absent, NarrowIds}
-use Rattle.unit_state.specs.State.{with_segments, no_mark, powered_on}
-use Rattle.unit_state.specs.Marks.{used_page, cleared_page}
+use Rattle.unit_state.specs.State.{no_mark, powered_on}
+use Rattle.unit_state.specs.Marks.{used_page}
 
 abbrev pub Sound : UnitState → Type 0
 Sound s =

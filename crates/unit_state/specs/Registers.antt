@@ -1,5 +1,5 @@
 -- Segment registers.
-use Rattle.std.specs.Prelude.{ℕ, ◌<◌, Bool, true, false, cond, ◌||◌, List, Some, None, Option, nat_lt, slice_index_or}
+use Rattle.std.specs.Prelude.{ℕ, ◌<◌, false, cond, List, Some, None, Option, nat_lt, slice_index_or}
 use Rattle.refusals.specs.declared.refusal.Refusal.{Refusal}
 use Rattle.refusals.specs.declared.refusal.Refusal.TheVariants.{RegisterOutside}
 use Rattle.protection.specs.declared.register.SegmentRegister.{SegmentRegister}

@@ -1,5 +1,5 @@
 -- The unit with one part of its state replaced.
-use Rattle.std.specs.Prelude.{ℕ, Bool, true, false, List, replicate}
+use Rattle.std.specs.Prelude.{ℕ, Bool, false, List, replicate}
 use Rattle.protection.specs.declared.register.SegmentRegister.{SegmentRegister}
 use Rattle.tlb.specs.declared.buffers.Buffers.{Buffers}
 use Rattle.tlb.specs.Lookup.{empty_buffers}

@@ -1,5 +1,5 @@
 -- From an effective address to a real one.
-use Rattle.std.specs.Prelude.{ℕ, ◌+◌, ◌*◌, Bool, cond, List, length, Some, None, Ok, Err, Option, Result, ◌==◌, slice_index_or}
+use Rattle.std.specs.Prelude.{ℕ, ◌+◌, ◌*◌, cond, List, length, Some, None, Ok, Err, Option, Result, ◌==◌, slice_index_or}
 use Rattle.refusals.specs.declared.refusal.Refusal.{Refusal}
 use Rattle.refusals.specs.declared.refusal.Refusal.TheVariants.{SizeDiffers, SegmentAbsent, SegmentBarred, ProtectionRefused, LockRefused}
 use Rattle.paging.specs.declared.geometry.PageGeometry.{PageGeometry}

@@ -1,4 +1,4 @@
-use Rattle.std.proofs.Common.{◌≡◌, ℕ, ◌+◌, ◌<◌, vec_items, sym, ap, ◌∙◌, arith, rules}
+use Rattle.std.proofs.Common.{◌≡◌, ℕ, vec_items, sym, ap, ◌∙◌, rules}
 use Rattle.next_page_table.specs.Laws.{link_at, first_of}
 use Rattle.next_page_table.proofs.Listing.{along_more, listed_more}
 use Rattle.next_page_table.proofs.trace.chain_entries.Goals as goal

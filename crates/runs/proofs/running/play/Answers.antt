@@ -1,4 +1,4 @@
-use Rattle.std.proofs.Common.{ap, ◌∙◌, arith, rules}
+use Rattle.std.proofs.Common.{ap, ◌∙◌, rules}
 use Rattle.runs.proofs.Going.{going_more, going_all}
 use Rattle.runs.proofs.running.play.Goals as goal
 

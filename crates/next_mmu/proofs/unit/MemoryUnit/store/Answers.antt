@@ -1,8 +1,8 @@
-use Rattle.std.proofs.Common.{◌≡◌, sym, subst, arith}
+use Rattle.std.proofs.Common.{sym, subst, arith}
 use Rattle.paging.proofs.Pages.{pages_bounded}
 use Rattle.unit_state.specs.declared.state.UnitState.{UnitState}
 use Rattle.unit_state.specs.Answers.{Answer}
-use Rattle.unit_state.specs.Requests.{store_answer, after_store}
+use Rattle.unit_state.specs.Requests.{after_store}
 use Rattle.unit_state.specs.Laws.{StoreLaws}
 use Rattle.unit_state.proofs.RequestLaws.{store_laws}
 use Rattle.next_mmu.proofs.unit.MemoryUnit.store.Goals as goal
