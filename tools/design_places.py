@@ -121,7 +121,7 @@ def point_5():
             found = [p.strip() for p in re.sub(r"\s+", " ", m.group(2)).split(", ")]
             found = [p.strip(", ") for p in found if ":" in p]
             for three in itertools.combinations(found, 3):
-                groups[three].add(f"{path}::{m.group(1)}")
+                groups[path.split("/")[0], three].add(f"{path}::{m.group(1)}")
     show(
         "5a facts that three or more functions require",
         [f"{len(v)} x {k}" for k, v in sorted(facts.items(), key=lambda x: -len(x[1])) if len(v) >= 3],
@@ -129,9 +129,9 @@ def point_5():
     show(
         "5b three parameters that four or more functions of one crate take together",
         [
-            f"{len(v)} x {', '.join(k)} ({sorted(v)[0].split('/')[0]})"
-            for k, v in sorted(groups.items(), key=lambda x: -len(x[1]))
-            if len(v) >= 4 and len({f.split("/")[0] for f in v}) == 1
+            f"{len(v)} x {', '.join(three)} ({crate})"
+            for (crate, three), v in sorted(groups.items(), key=lambda x: -len(x[1]))
+            if len(v) >= 4
         ],
     )
 

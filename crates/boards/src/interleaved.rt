@@ -27,11 +27,7 @@ impl<X: ReadStorage, Y: ReadStorage> ReadStorage for Interleaved<X, Y> {
 
     fn count(&self) -> u32 {
         let half = self.first.count().min(self.second.count());
-        if half < WORD_LIMIT / 2 {
-            2 * half
-        } else {
-            WORD_LIMIT
-        }
+        (2 * half).min(WORD_LIMIT)
     }
 
     fn read(&self, n: u32) -> Result<u32, Refusal> {

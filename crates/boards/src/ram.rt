@@ -11,12 +11,7 @@ use storage::words::{ReadStorage, Storage, WORD_LIMIT};
 fn words_in(bytes: &[u8]) -> u32
     ensures { result ≡ ram_count bytes.now }
 {
-    let whole = bytes.len() / 4;
-    if whole < WORD_LIMIT as usize {
-        whole as u32
-    } else {
-        WORD_LIMIT
-    }
+    (bytes.len() / 4).min(WORD_LIMIT as usize) as u32
 }
 
 // Storage over the caller's bytes.

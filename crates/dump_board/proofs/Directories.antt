@@ -2,7 +2,7 @@
 use Rattle.std.proofs.Common.{◌≡◌, ℕ, zero, suc, ◌<◌, ◌≤◌, ◌≢◌, List, [], ◌∷◌, length, get_or, replicate, sym, refl, ap, ◌∙◌, arith}
 use lib.ListN.{length-replicate, get_or-replicate}
 use Rattle.std.proofs.lemmas.Bool.Decides.{nat_tests}
-use Rattle.dump_board.specs.Dump.{IsDirectory, Inverse, Lists, Inside, Apart, block_of}
+use Rattle.dump_board.specs.Dump.{IsDirectory, Inverse, Lists, block_of}
 
 pub inverse_none : (pages : List ℕ) → Inverse pages (replicate 1024 1024) 0
 inverse_none pages =
@@ -28,25 +28,6 @@ unlisted pages blocks p inv h none d =
     let l = d.listed p h in
     let at : get_or blocks p 0 ≡ l.0 = ap (λ q. get_or blocks q 0) (sym l.2) ∙ inv.back l.0 l.1 in
     omega (arith, d.short, l.1)
-
-pub held_inside :
-    (pages blocks : List ℕ) →
-    length pages ≤ 1024 →
-    Inverse pages blocks (length pages) →
-    Every pages blocks →
-    Inside (length pages) blocks
-held_inside pages blocks short inv every p h = (inv.held p (omega arith) (every p h)).0
-
-pub held_apart :
-    (pages blocks : List ℕ) →
-    length pages ≤ 1024 →
-    Inverse pages blocks (length pages) →
-    Every pages blocks →
-    Apart (length pages) blocks
-held_apart pages blocks short inv every p q h =
-    let at = (inv.held p (omega (arith, h.0)) (every p h.0)).1 in
-    let and = (inv.held q (omega (arith, h.1)) (every q h.1)).1 in
-    sym at ∙ ap (λ b. get_or pages b 0) h.2 ∙ and
 
 pub all_lists :
     (pages blocks : List ℕ) →

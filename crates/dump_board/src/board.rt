@@ -1,7 +1,8 @@
 ghost use Rattle.std.specs.Prelude.{◌≡◌, ◌+◌, ◌*◌, ◌<◌, [], length, MatchResult};
 ghost use Rattle.refusals.specs.declared.refusal.Refusal.TheVariants.{NotADirectory};
 ghost use Rattle.storage.specs.Words.{write_of, written};
-ghost use Rattle.dump_board.specs.Dump.{IsDirectory, dumped, dump_count, dump_words, dump_bytes, dump_bounded, placed};
+ghost use Rattle.dump_board.specs.Dump.{IsDirectory, dumped, dump_bounded, placed};
+ghost use Rattle.dump_board.specs.Listed.{listed_count, listed_words, listed_bytes};
 ghost use Rattle.storage.specs.Lent.{one};
 
 use crate::directory::Directory;
@@ -20,7 +21,7 @@ impl<'a> DumpBoard<'a> {
     // A board that has no words until its directory is filled.
     pub fn new(bytes: &'a mut [u8]) -> DumpBoard<'a>
         ensures bytes { result.bytes.now ≡ bytes.old }
-        ensures empty { dump_words result.bytes.now result.directory.count result.directory.blocks ≡ [] }
+        ensures empty { listed_words result.bytes.now result.directory ≡ [] }
     {
         DumpBoard {
             bytes,
@@ -31,7 +32,7 @@ impl<'a> DumpBoard<'a> {
     // Takes a list of the page that each block holds as the directory. The old one stays where the list is none.
     pub fn fill(&mut self, pages: &[u16]) -> Result<(), Refusal>
         ensures answer { MatchResult result (λ _. IsDirectory pages.now) (λ e. (e ≡ NotADirectory) × (IsDirectory pages.now → ⊥)) }
-        ensures after { MatchResult result (λ _. dump_words self.new.bytes.now self.new.directory.count self.new.directory.blocks ≡ dumped self.old.bytes.now pages.now) (λ _. self.new ≡ self.old) }
+        ensures after { MatchResult result (λ _. listed_words self.new.bytes.now self.new.directory ≡ dumped self.old.bytes.now pages.now) (λ _. self.new ≡ self.old) }
         ensures bytes { self.new.bytes.now ≡ self.old.bytes.now }
         ensures lenders { one self.new.bytes.ghost_name ≡ one self.old.bytes.ghost_name }
     {
@@ -40,7 +41,7 @@ impl<'a> DumpBoard<'a> {
     }
 
     fn word_count(&self) -> u32
-        ensures { result ≡ dump_count self.now.bytes.now self.now.directory.count }
+        ensures { result ≡ listed_count self.now.bytes.now self.now.directory }
     {
         let count = self.directory.count;
         if 2048 * count as usize <= self.bytes.len() {
@@ -52,7 +53,7 @@ impl<'a> DumpBoard<'a> {
 
     // Where word n lies among the words of the blocks.
     fn place(&self, n: u32) -> u32
-        requires { n < dump_count self.now.bytes.now self.now.directory.count }
+        requires { n < listed_count self.now.bytes.now self.now.directory }
         ensures is { result ≡ placed self.now.directory.blocks n }
         ensures inside { 4 * result + 3 < length self.now.bytes.now }
     {
@@ -61,7 +62,7 @@ impl<'a> DumpBoard<'a> {
 }
 
 impl<'a> ReadStorage for DumpBoard<'a> {
-    ghost words = { λ s. dump_words s.bytes.now s.directory.count s.directory.blocks };
+    ghost words = { λ s. listed_words s.bytes.now s.directory };
 
     ghost bounded = { λ s. dump_bounded s.bytes.now s.directory.count s.directory.blocks s.directory.short };
 
@@ -81,10 +82,10 @@ impl<'a> Storage for DumpBoard<'a> {
     ghost lenders = { λ s. one s.bytes.ghost_name };
 
     fn write(&mut self, n: u32, value: u32, mask: u8) -> Result<(), Refusal>
-        ensures answer { result ≡ write_of (dump_words self.old.bytes.now self.old.directory.count self.old.directory.blocks) n mask }
-        ensures after { dump_words self.new.bytes.now self.new.directory.count self.new.directory.blocks ≡ written (dump_words self.old.bytes.now self.old.directory.count self.old.directory.blocks) n value mask }
+        ensures answer { result ≡ write_of (listed_words self.old.bytes.now self.old.directory) n mask }
+        ensures after { listed_words self.new.bytes.now self.new.directory ≡ written (listed_words self.old.bytes.now self.old.directory) n value mask }
         ensures lenders { one self.new.bytes.ghost_name ≡ one self.old.bytes.ghost_name }
-        ensures bytes { self.new.bytes.now ≡ dump_bytes self.old.bytes.now self.old.directory.count self.old.directory.blocks n value mask }
+        ensures bytes { self.new.bytes.now ≡ listed_bytes self.old.bytes.now self.old.directory n value mask }
     {
         if n >= self.word_count() {
             return Err(Refusal::WordOutside);

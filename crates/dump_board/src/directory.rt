@@ -7,10 +7,11 @@ use refusals::refusal::Refusal;
 // The most pages that a dump has.
 pub const PAGE_LIMIT: usize = 1024;
 
-// A page that no block holds.
+// A page that no block holds. Options would have to be turned into the plain numbers that a board reads by, with a number
+// again for the pages behind the last.
 const UNLISTED: u16 = 1024;
 
-// Which block holds each page.
+// Which block holds each page. The blocks lie in a fixed buffer, since making a board takes no memory from a heap.
 #[derive(Clone, Copy)]
 pub struct Directory {
     pub(crate) count: u16,
@@ -45,12 +46,7 @@ fn all_listed(blocks: &[u16], count: usize) -> bool
     requires { count ≤ length blocks.now }
     ensures { MatchBool result ((p : ℕ) → p < count → slice_index blocks.now p ≢ 1024) ((p : ℕ) × (p < count) × (slice_index blocks.now p ≡ 1024)) }
 {
-    for p in 0..count {
-        if blocks[p] == UNLISTED {
-            return false;
-        }
-    }
-    true
+    !blocks[..count].contains(&UNLISTED)
 }
 
 impl Directory {

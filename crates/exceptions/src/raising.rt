@@ -53,13 +53,7 @@ impl Exceptions {
         ensures { result ≡ no_exceptions }
     {
         Exceptions {
-            causes: Causes {
-                segment_barred: false,
-                page_fault: false,
-                long_stop: false,
-                protection: false,
-                lock: false,
-            },
+            causes: Causes::default(),
             multiple: false,
             load: false,
             address: EffectiveAddress { number: 0 },

@@ -11,7 +11,7 @@ pub enum Exception {
 }
 
 // The five bits of the memory exception register that say what was raised.
-#[derive(Clone, Copy, PartialEq, Eq, Debug)]
+#[derive(Clone, Copy, PartialEq, Eq, Default, Debug)]
 pub struct Causes {
     pub segment_barred: bool,
     pub page_fault: bool,
@@ -21,7 +21,8 @@ pub struct Causes {
 }
 
 // The memory exception register (MER): what was raised, whether more than one exception was, and whether the one whose address
-// is kept was a load; the memory exception address register (MEAR); and whether that is locked.
+// is kept was a load; the memory exception address register (MEAR); and whether that is locked: a flag, and no `Option` of the
+// address, which an unlocked register keeps.
 #[derive(Clone, Copy, PartialEq, Eq, Debug)]
 pub struct Exceptions {
     pub causes: Causes,

@@ -1,5 +1,1 @@
-pub mod Answers
-pub mod Lanes
-pub mod Bytes
-pub mod Marks
 pub mod Real

@@ -1,11 +1,9 @@
 #![tactic(auto)]
 
-pub mod answer;
-pub mod answers;
-pub mod lanes;
+pub mod exception_registers;
 pub mod marks;
 pub mod power;
 pub mod real;
-pub mod state;
+pub mod registers;
+pub mod requests;
 pub mod unit;
-pub mod width;

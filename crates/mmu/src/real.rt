@@ -1,23 +1,24 @@
 ghost use Rattle.std.specs.Prelude.{◌≡◌, ◌<◌, IfOk, OnOk};
+ghost use Rattle.paging.specs.Numbers.{numbers_of};
 ghost use Rattle.paging.specs.Address.{page_of};
-ghost use Rattle.mmu.specs.Answers.{passed};
-ghost use Rattle.mmu.specs.Bytes.{LoadedBytes, StoredBytes};
+ghost use Rattle.unit_state.specs.Answers.{passed};
+ghost use Rattle.lanes.specs.Bytes.{LoadedBytes, StoredBytes};
 ghost use Rattle.mmu.specs.Real.{load_refusal, real_load, after_real_load, real_store, after_real_store, real_stored};
 
-use crate::answer::{Access, Fault};
-use crate::answers::Answer;
-use crate::lanes::{load_unit, store_unit};
 use crate::unit::MemoryUnit;
-use crate::width::Width;
+use lanes::access::{load_unit, store_unit};
+use lanes::width::Width;
 use paging::address::RealAddress;
 use paging::form::PageForm;
 use refusals::refusal::Refusal;
 use storage::words::{ReadStorage, Storage};
+use unit_state::answer::{Access, Fault};
+use unit_state::answers::Answer;
 
 impl<F: PageForm> MemoryUnit<F> {
     // The real page of an address. The storage has to be as long as the plan says, and the address in it.
     fn real_page<S: ReadStorage>(&self, storage: &S, address: RealAddress) -> Result<u32, Refusal>
-        ensures is { result ≡ passed (load_refusal self.now.plan.exponent (S.ReadStorage.words storage.now) address.number) (page_of F.PageForm.sizes address.number) }
+        ensures is { result ≡ passed (load_refusal (numbers_of self.now.plan) (S.ReadStorage.words storage.now) address.number) (page_of F.PageForm.sizes address.number) }
         ensures low { IfOk result (λ page. page < 8192) }
     {
         let bytes = self.plan.storage_bytes();
@@ -37,8 +38,8 @@ impl<F: PageForm> MemoryUnit<F> {
         address: RealAddress,
         width: Width,
     ) -> Answer
-        ensures answer { result ≡ real_load self.old.plan.exponent (S.ReadStorage.words storage.now) width address.number }
-        ensures state { self.new.state ≡ after_real_load F.PageForm.sizes self.old.plan.exponent (S.ReadStorage.words storage.now) address.number self.old.state }
+        ensures answer { result ≡ real_load (numbers_of self.old.plan) (S.ReadStorage.words storage.now) width address.number }
+        ensures state { self.new.state ≡ after_real_load (numbers_of self.old.plan) (S.ReadStorage.words storage.now) address.number self.old.state }
         ensures plan { self.new.plan ≡ self.old.plan }
         ensures bytes { IfOk result (λ a. LoadedBytes (S.ReadStorage.words storage.now) width address.number a.value) }
     {
@@ -60,10 +61,10 @@ impl<F: PageForm> MemoryUnit<F> {
         width: Width,
         value: u32,
     ) -> Answer
-        ensures answer { result ≡ real_store self.old.plan.exponent (S.ReadStorage.words storage.old) width address.number value }
-        ensures state { self.new.state ≡ after_real_store F.PageForm.sizes self.old.plan.exponent (S.ReadStorage.words storage.old) width address.number value self.old.state }
+        ensures answer { result ≡ real_store (numbers_of self.old.plan) (S.ReadStorage.words storage.old) width address.number value }
+        ensures state { self.new.state ≡ after_real_store (numbers_of self.old.plan) (S.ReadStorage.words storage.old) width address.number value self.old.state }
         ensures plan { self.new.plan ≡ self.old.plan }
-        ensures words { S.ReadStorage.words storage.new ≡ real_stored self.old.plan.exponent (S.ReadStorage.words storage.old) width address.number value }
+        ensures words { S.ReadStorage.words storage.new ≡ real_stored (numbers_of self.old.plan) (S.ReadStorage.words storage.old) width address.number value }
         ensures bytes { OnOk result (StoredBytes (S.ReadStorage.words storage.old) (S.ReadStorage.words storage.new) width address.number value) }
         ensures lenders { S.Storage.lenders storage.new ≡ S.Storage.lenders storage.old }
     {

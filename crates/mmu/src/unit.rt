@@ -1,13 +1,13 @@
-ghost use Rattle.std.specs.Prelude.{◌≡◌, length};
+ghost use Rattle.unit_state.specs.Sound.{Sound};
 
-use crate::state::UnitState;
 use paging::form::PageForm;
 use paging::plan::SettledPlan;
+use unit_state::state::UnitState;
 
-// A memory management unit in use: the plan that it was powered on from, and its state.
+// A memory management unit in use: the plan that it was powered on from, and its state, which is sound.
 #[derive(Drop)]
 pub struct MemoryUnit<F: PageForm> {
     pub(crate) plan: SettledPlan<F>,
     pub(crate) state: UnitState,
-    ghost whole: { length state.marks ≡ 8192 },
+    ghost sound: { Sound state },
 }

@@ -1,2 +1,6 @@
+pub mod Tags
+mod Ways
 mod Turns
-mod Alike
+pub mod Walks
+pub mod Alike
+mod Listing

@@ -1,31 +1,32 @@
 -- The steps of the loop that follows a chain.
-use Rattle.std.proofs.Common.{◌≡◌, ℕ, zero, suc, ◌+◌, ◌<◌, List, Ok, Err, sym, ap, ◌∙◌, arith}
-use Rattle.paging.specs.declared.geometry.PageGeometry.{PageGeometry}
+use Rattle.std.proofs.Common.{◌≡◌, ℕ, suc, ◌+◌, ◌-◌, ◌<◌, Some, Ok, Option, Result, Continue, sym, ap, ◌∙◌, subst, arith}
 use Rattle.page_table.specs.declared.walk.Query.{Query}
-use Rattle.page_table.specs.declared.walk.Turn.{Turn}
-use Rattle.page_table.specs.declared.walk.Turn.TheVariants.{Stop, On}
-use Rattle.page_table.specs.Search.{Outcome, turned, gone_on, chain, EndsWell, EndsWithin}
+use Rattle.page_table.specs.declared.walk.Fault.{Fault}
+use Rattle.page_table.specs.Search.{Turn, gone_on, chain, Going}
 
-pub at_stop :
-    (f : PageGeometry) (ws : List ℕ) (q : Query) (fuel i n : ℕ) (r : Outcome) →
-    0 < fuel →
-    Stop r ≡ turned f ws q i n →
-    chain f ws q fuel i n ≡ r
+-- What a walk comes to, where that is what it comes to from entry i on, is what one more turn makes of it.
+pub one_turn :
+    {E : Type 0} (reached : ℕ → Option ℕ → Option ℕ) (turn : ℕ → ℕ → Option ℕ → Turn E) (q : Query)
+    (i n : ℕ) (last : Option ℕ) (whole : Result E Fault) (t : Turn E) →
+    n < q.limit →
+    whole ≡ chain reached turn q (q.limit - n) i n last →
+    t ≡ turn i n last →
+    whole ≡ gone_on t (λ next. chain reached turn q (q.limit - (n + 1)) next (n + 1) (Some i))
 unfolding chain
-at_stop f ws q zero i n r h e = absurd (omega arith)
-at_stop f ws q (suc fuel) i n r h e = ap (λ t. gone_on t (λ next. chain f ws q fuel next (n + 1))) (sym e)
+one_turn reached turn q i n last whole t h from e =
+    let less : q.limit - n ≡ suc (q.limit - (n + 1)) = omega (arith, h) in
+    from
+    ∙ ap (λ v. chain reached turn q v i n last) less
+    ∙ ap (λ t. gone_on t (λ next. chain reached turn q (q.limit - (n + 1)) next (n + 1) (Some i))) (sym e)
 
-pub at_on :
-    (f : PageGeometry) (ws : List ℕ) (q : Query) (fuel less i n next : ℕ) →
-    fuel ≡ suc less →
-    On next ≡ turned f ws q i n →
-    chain f ws q fuel i n ≡ chain f ws q less next (n + 1)
-unfolding chain
-at_on f ws q fuel less i n next h e =
-    ap (λ v. chain f ws q v i n) h ∙ ap (λ t. gone_on t (λ next. chain f ws q less next (n + 1))) (sym e)
-
--- an end without a match is a good one
-pub within_well : (f : PageGeometry) (ws : List ℕ) (q : Query) (t : Turn) → EndsWithin q t → EndsWell f ws q t
-within_well f ws q (Stop (Ok x)) h = absurd h
-within_well f ws q (Stop (Err e)) h = h
-within_well f ws q (On next) h = tt
+-- where a walk goes on after n + 1 comparisons, that is not the limit
+pub on_below :
+    {E : Type 0} (q : Query) (n next : ℕ) (t : Turn E) →
+    Going q (n + 1) t →
+    n < q.limit →
+    Ok (Continue next) ≡ t →
+    n + 1 < q.limit
+on_below {E} q n next t going h e =
+    let P : Turn E → Type 0 = λ t. Going {E = E} q (n + 1) t in
+    let there : Going {E = E} q (n + 1) (Ok (Continue next)) = subst P (sym e) going in
+    omega (arith, there.0)

@@ -28,12 +28,11 @@ link_of word = record { last = flag word 16; next = field word 19 13 }
 
 -- Word 0 has the key in bits 0 and 1. Word 2 has the write bit in bit 7, the transaction ID in bits 8 to 15 and the lock bits
 -- in bits 16 to 31.
-abbrev pub entry_of : PageGeometry → ℕ → ℕ → ℕ → PageEntry
-entry_of f word0 word1 word2 =
+abbrev pub entry_of : PageGeometry → ℕ → ℕ → PageEntry
+entry_of f word0 word2 =
     record {
       key = field word0 0 2;
       tag = tag_of f word0;
-      link = link_of word1;
       write = flag word2 7;
       transaction = field word2 8 8;
       locks = field word2 16 16;

@@ -1,136 +1,167 @@
--- The search of the page table for a virtual page.
-use Rattle.std.specs.Prelude.{◌≡◌, ℕ, zero, suc, ◌+◌, ◌*◌, ◌/◌, ◌%◌, ◌<◌, ◌≤◌, Bool, cond, ◌&&◌, List, Some, None, Ok, Err, Option, Result, ◌==◌, bit_xor, nat_lt, slice_index}
+-- The walk of the page table for a virtual page.
+use Rattle.std.specs.Prelude.{◌≡◌, ℕ, zero, suc, ◌+◌, ◌*◌, ◌/◌, ◌%◌, ◌<◌, Bool, cond, ◌&&◌, List, Some, None, Ok, Err, Option, Result, ◌==◌, bit_xor, nat_lt}
+use Rattle.std.specs.declared.ops.ControlFlow.{ControlFlow}
+use Rattle.std.specs.declared.ops.ControlFlow.TheVariants.{Continue, Break}
 use Rattle.refusals.specs.declared.refusal.Refusal.{Refusal}
 use Rattle.refusals.specs.declared.refusal.Refusal.TheVariants.{PageFault, LongSearch, PointerOutside, EndlessChain}
 use Rattle.storage.specs.Words.{read_of}
 use Rattle.paging.specs.declared.geometry.PageGeometry.{PageGeometry}
+use Rattle.paging.specs.Numbers.{PlanNumbers}
 use Rattle.paging.specs.Plan.{page_count, table_start}
 use Rattle.page_table.specs.declared.entry.Tag.{Tag}
 use Rattle.page_table.specs.declared.entry.Anchor.{Anchor}
 use Rattle.page_table.specs.declared.entry.Link.{Link}
-use Rattle.page_table.specs.declared.entry.PageEntry.{PageEntry}
 use Rattle.page_table.specs.declared.walk.Query.{Query}
 use Rattle.page_table.specs.declared.walk.Found.{Found}
-use Rattle.page_table.specs.declared.walk.SearchFault.{SearchFault}
-use Rattle.page_table.specs.declared.walk.Turn.{Turn}
-use Rattle.page_table.specs.declared.walk.Turn.TheVariants.{Stop, On}
+use Rattle.page_table.specs.declared.walk.Linked.{Linked}
+use Rattle.page_table.specs.declared.walk.Fault.{Fault}
 use Rattle.page_table.specs.Entry.{tag_of, anchor_of, link_of, entry_of}
 
 abbrev pub Outcome : Type 0
-Outcome = Result Found SearchFault
+Outcome = Result Found Fault
 
-abbrev pub fails : Refusal → ℕ → Option ℕ → Outcome
+abbrev pub LinkedOutcome : Type 0
+LinkedOutcome = Result Linked Fault
+
+-- what comes of one comparison: what the walk found, or the next entry; or a refusal
+abbrev pub Turn : Type 0 → Type 0
+Turn E = Result (ControlFlow E ℕ) Fault
+
+-- a refusal after n comparisons, of which the last was that of `last`
+abbrev pub fails : {E : Type 0} → Refusal → ℕ → Option ℕ → Result E Fault
 fails r n last = Err (record { refusal = r; compared = n; last = last })
 
 -- a refusal before any entry is compared
-abbrev pub unsearched : Refusal → SearchFault
-unsearched r = record { refusal = r; compared = 0; last = None }
+abbrev pub uncompared : Refusal → Fault
+uncompared r = record { refusal = r; compared = 0; last = None }
 
--- what comes of a word that is read, after n comparisons of which the last was that of `last`
+-- what comes of a word that is read, or refused
 abbrev pub read_then : {X : Type 0} → Result ℕ Refusal → (Refusal → X) → (ℕ → X) → X
 read_then (Ok w) refused next = next w
 read_then (Err r) refused next = refused r
 
+-- a word that is read after n comparisons, of which the last was that of `last`
+abbrev pub word_of : List ℕ → ℕ → ℕ → Option ℕ → Result ℕ Fault
+word_of ws p n last = read_then (read_of ws p) (λ r. fails r n last) (λ w. Ok w)
+
+-- what comes after a word that may be refused
+abbrev pub and_then : {X : Type 0} → Result ℕ Fault → (ℕ → Result X Fault) → Result X Fault
+and_then (Ok w) next = next w
+and_then (Err e) next = Err e
+
 abbrev pub same_tag : Tag → Tag → Bool
 same_tag a b = a.segment == b.segment && a.page == b.page
-
--- Behind an entry that was compared and differs, as the n-th: a last entry is a page fault; then the limit; then the pointer.
-abbrev pub followed : Query → ℕ → ℕ → Link → Turn
-followed q i n link =
-    cond
-    link.last
-    (Stop (fails PageFault n (Some i)))
-    (cond
-    (n == q.limit)
-    (Stop (fails q.stop n (Some i)))
-    (cond (nat_lt link.next q.entries) (On link.next) (Stop (fails PointerOutside n (Some i)))))
 
 -- where the first word of entry i lies
 abbrev pub place_of : Query → ℕ → ℕ
 place_of q i = q.start + 4 * i
 
--- An entry that is equal ends the search, with all that it says.
-abbrev pub matched : PageGeometry → List ℕ → Query → ℕ → ℕ → ℕ → ℕ → Turn
-matched f ws q i n w0 w1 =
-    read_then (read_of ws (place_of q i + 2)) (λ r. Stop (fails r n (Some i))) (λ w2.
-    Stop (Ok (record { entry = i; page = entry_of f w0 w1 w2; compared = n + 1 })))
+-- Behind entry i, which was compared as the n-th and differs: a last entry is a page fault; then comes the limit; then the
+-- pointer.
+abbrev pub followed : {E : Type 0} → Query → ℕ → ℕ → Link → Turn E
+followed q i n link =
+    cond
+    link.last
+    (fails PageFault n (Some i))
+    (cond
+    (n == q.limit)
+    (fails q.stop n (Some i))
+    (cond (nat_lt link.next q.entries) (Ok (Continue link.next)) (fails PointerOutside n (Some i))))
 
--- The whole tag of an entry is compared.
-abbrev pub judged : PageGeometry → List ℕ → Query → ℕ → ℕ → ℕ → ℕ → Turn
-judged f ws q i n w0 w1 =
-    cond (same_tag (tag_of f w0) q.tag) (matched f ws q i n w0 w1) (followed q i (n + 1) (link_of w1))
+abbrev pub passed : List ℕ → Query → ℕ → ℕ → Turn Found
+passed ws q i n = and_then (word_of ws (place_of q i + 1) n (Some i)) (λ w1. followed q i n (link_of w1))
 
--- Entry i is compared, after n others.
-abbrev pub turned : PageGeometry → List ℕ → Query → ℕ → ℕ → Turn
-turned f ws q i n =
-    read_then (read_of ws (place_of q i)) (λ r. Stop (fails r n (Some i))) (λ w0.
-    read_then (read_of ws (place_of q i + 1)) (λ r. Stop (fails r n (Some i))) (λ w1.
-    judged f ws q i n w0 w1))
+-- An entry that is equal ends the walk, with what it says of its page.
+abbrev pub matched : PageGeometry → List ℕ → Query → ℕ → ℕ → ℕ → Turn Found
+matched f ws q i n w0 =
+    and_then (word_of ws (place_of q i + 2) n (Some i)) (λ w2.
+    Ok (Break (record { entry = i; page = entry_of f w0 w2; compared = n })))
 
-abbrev pub gone_on : Turn → (ℕ → Outcome) → Outcome
-gone_on (Stop r) on = r
-gone_on (On next) on = on next
+-- The whole tag of entry i is compared, as the n-th.
+abbrev pub judged : PageGeometry → List ℕ → Query → ℕ → ℕ → ℕ → Turn Found
+judged f ws q i n w0 = cond (same_tag (tag_of f w0) q.tag) (matched f ws q i n w0) (passed ws q i n)
 
--- the search from entry i on, after n comparisons; there are at most `fuel` more
-unfoldable pub chain : PageGeometry → List ℕ → Query → ℕ → ℕ → ℕ → Outcome
-chain f ws q zero i n = fails q.stop n (Some i)
-chain f ws q (suc fuel) i n = gone_on (turned f ws q i n) (λ next. chain f ws q fuel next (n + 1))
+-- Entry i is compared, after n others, of which the last was `last`. It counts as soon as its tag is read.
+abbrev pub turned : PageGeometry → List ℕ → Query → ℕ → ℕ → Option ℕ → Turn Found
+turned f ws q i n last = and_then (word_of ws (place_of q i) n last) (λ w0. judged f ws q i (n + 1) w0)
+
+-- Where words 0 and 1 are read before the comparison, an entry that is equal ends the walk with its link too.
+abbrev pub matched_ahead : PageGeometry → List ℕ → Query → ℕ → ℕ → ℕ → ℕ → Turn Linked
+matched_ahead f ws q i n w0 w1 =
+    and_then (word_of ws (place_of q i + 2) n (Some i)) (λ w2.
+    Ok (Break (record { found = record { entry = i; page = entry_of f w0 w2; compared = n + 1 }; link = link_of w1 })))
+
+-- The whole tag of entry i is compared, after n others.
+abbrev pub judged_ahead : PageGeometry → List ℕ → Query → ℕ → ℕ → ℕ → ℕ → Turn Linked
+judged_ahead f ws q i n w0 w1 =
+    cond (same_tag (tag_of f w0) q.tag) (matched_ahead f ws q i n w0 w1) (followed q i (n + 1) (link_of w1))
+
+-- Entry i is compared, after n others, once words 0 and 1 are read. Where a word of it is not there, it is the last, and does
+-- not count.
+abbrev pub turned_ahead : PageGeometry → List ℕ → Query → ℕ → ℕ → Option ℕ → Turn Linked
+turned_ahead f ws q i n last =
+    and_then (word_of ws (place_of q i) n (Some i)) (λ w0.
+    and_then (word_of ws (place_of q i + 1) n (Some i)) (λ w1.
+    judged_ahead f ws q i n w0 w1))
+
+-- Which entry a refusal names as the last before entry i is compared: the one before it, or where words are read before the
+-- comparison, itself.
+abbrev pub before : ℕ → Option ℕ → Option ℕ
+before i last = last
+
+abbrev pub itself : ℕ → Option ℕ → Option ℕ
+itself i last = Some i
+
+abbrev pub gone_on : {E : Type 0} → Turn E → (ℕ → Result E Fault) → Result E Fault
+gone_on (Ok (Break x)) on = Ok x
+gone_on (Ok (Continue next)) on = on next
+gone_on (Err e) on = Err e
+
+-- the walk from entry i on, by turns, after n comparisons, of which the last was that of `last`; there are at most `fuel` more
+unfoldable pub chain :
+    {E : Type 0} → (ℕ → Option ℕ → Option ℕ) → (ℕ → ℕ → Option ℕ → Turn E) → Query → ℕ → ℕ → ℕ → Option ℕ → Result E Fault
+chain reached turn q zero i n last = fails q.stop n (reached i last)
+chain reached turn q (suc fuel) i n last =
+    gone_on (turn i n last) (λ next. chain reached turn q fuel next (n + 1) (Some i))
 
 -- The chain starts at the anchor's pointer. An empty anchor is a page fault.
-abbrev pub anchored : PageGeometry → List ℕ → Query → Anchor → Outcome
-anchored f ws q a =
+abbrev pub anchored :
+    {E : Type 0} → (ℕ → Option ℕ → Option ℕ) → (ℕ → ℕ → Option ℕ → Turn E) → Query → Anchor → Result E Fault
+anchored reached turn q a =
     cond
     a.empty
     (fails PageFault 0 None)
-    (cond (nat_lt a.first q.entries) (chain f ws q q.limit a.first 0) (fails PointerOutside 0 None))
+    (cond (nat_lt a.first q.entries) (chain reached turn q q.limit a.first 0 None) (fails PointerOutside 0 None))
 
 -- The hash of a virtual page names its anchor: (s XOR v) mod P.
 abbrev pub hash_of : Query → ℕ
 hash_of q = bit_xor q.tag.segment q.tag.page % q.entries
 
-abbrev pub searched : PageGeometry → List ℕ → Query → Outcome
-searched f ws q =
-    read_then (read_of ws (place_of q (hash_of q) + 1)) (λ r. fails r 0 None) (λ w1. anchored f ws q (anchor_of w1))
+-- the search by turns
+abbrev pub found_by :
+    {E : Type 0} → (ℕ → Option ℕ → Option ℕ) → (ℕ → ℕ → Option ℕ → Turn E) → List ℕ → Query → Result E Fault
+found_by reached turn ws q =
+    read_then (read_of ws (place_of q (hash_of q) + 1)) (λ r. fails r 0 None) (λ w1. anchored reached turn q (anchor_of w1))
 
--- The limit is 127 with the long-search bit on, and else P.
-abbrev pub query_of : PageGeometry → ℕ → ℕ → Bool → Tag → Query
-query_of f k b long tag =
+abbrev pub found_in : PageGeometry → List ℕ → Query → Outcome
+found_in f ws q = found_by before (turned f ws q) ws q
+
+abbrev pub searched : PageGeometry → List ℕ → Query → LinkedOutcome
+searched f ws q = found_by itself (turned_ahead f ws q) ws q
+
+-- Where a walk goes on after n comparisons, that is not the limit, and the next entry is one of the table.
+abbrev pub Going : {E : Type 0} → Query → ℕ → Turn E → Type 0
+Going q n (Ok (Break x)) = Unit {0}
+Going q n (Ok (Continue next)) = (n ≡ q.limit → ⊥) × (next < q.entries)
+Going q n (Err e) = Unit {0}
+
+-- The limit is 127 with the long-stop bit on, and else P.
+abbrev pub query_of : PlanNumbers → Bool → Tag → Query
+query_of plan long tag =
     record {
-      start = table_start f k b / 4;
-      entries = page_count f k;
+      start = table_start plan.form plan.exponent plan.base / 4;
+      entries = page_count plan.form plan.exponent;
       tag = tag;
-      limit = cond long 127 (page_count f k);
+      limit = cond long 127 (page_count plan.form plan.exponent);
       stop = cond long LongSearch EndlessChain;
     }
-
--- where a search goes on after n comparisons, the limit is not reached, and the next entry is one of the table
-abbrev pub Going : Query → ℕ → Turn → Type 0
-Going q n (Stop r) = Unit {0}
-Going q n (On next) = (n < q.limit) × (next < q.entries)
-
--- what the words of entry i say
-abbrev pub entry_at : PageGeometry → List ℕ → Query → ℕ → PageEntry
-entry_at f ws q i = entry_of f (slice_index ws (place_of q i)) (slice_index ws (place_of q i + 1)) (slice_index ws (place_of q i + 2))
-
--- What is found is an entry of the table, with what its words say; its whole tag is the one asked for; and at least one entry
--- was compared, and no more than the limit.
-pub record FoundWell (f : PageGeometry) (ws : List ℕ) (q : Query) (x : Found) : Type 0 where
-  pub inside : x.entry < q.entries
-  pub says : x.page ≡ entry_at f ws q x.entry
-  pub tagged : x.page.tag ≡ q.tag
-  pub some : 1 ≤ x.compared
-  pub few : x.compared ≤ q.limit
-
-abbrev pub Well : PageGeometry → List ℕ → Query → Outcome → Type 0
-Well f ws q (Ok x) = FoundWell f ws q x
-Well f ws q (Err e) = e.compared ≤ q.limit
-
-abbrev pub EndsWell : PageGeometry → List ℕ → Query → Turn → Type 0
-EndsWell f ws q (Stop r) = Well f ws q r
-EndsWell f ws q (On next) = Unit {0}
-
--- where a search ends without a match, it has not compared more than the limit
-abbrev pub EndsWithin : Query → Turn → Type 0
-EndsWithin q (Stop (Ok x)) = ⊥
-EndsWithin q (Stop (Err e)) = e.compared ≤ q.limit
-EndsWithin q (On next) = Unit {0}

@@ -35,14 +35,13 @@ pub fn link_of(word: u32) -> Link
     }
 }
 
-// What the first three words of an entry say of its real page. The fourth is reserved.
-pub fn entry_of<F: PageForm>(word0: u32, word1: u32, word2: u32) -> PageEntry
-    ensures { result ≡ entry_of F.PageForm.sizes word0 word1 word2 }
+// What words 0 and 2 of an entry say of its real page.
+pub fn entry_of<F: PageForm>(word0: u32, word2: u32) -> PageEntry
+    ensures { result ≡ entry_of F.PageForm.sizes word0 word2 }
 {
     PageEntry {
         key: (word0 >> 30) as u8,
         tag: tag_of::<F>(word0),
-        link: link_of(word1),
         write: (word2 >> 24) % 2 == 1,
         transaction: ((word2 >> 16) % 256) as u8,
         locks: (word2 % 65536) as u16,

@@ -1,7 +1,8 @@
-use crate::entry::{PageEntry, Tag};
+use crate::entry::{Link, PageEntry, Tag};
 use refusals::refusal::Refusal;
+use std::ops::ControlFlow;
 
-// What a search looks for, and where: the first word of the table, its entries, the virtual page, how many entries may be
+// What a walk looks for, and where: the first word of the table, its entries, the virtual page, how many entries may be
 // compared, and the refusal where the chain goes on behind so many.
 #[derive(Clone, Copy)]
 pub struct Query {
@@ -12,25 +13,35 @@ pub struct Query {
     pub stop: Refusal,
 }
 
-// The entry that a search found, with what it says, and how many entries were compared.
-#[derive(Clone, Copy)]
+// The entry that a walk found, with what it says, and how many entries were compared.
+#[derive(Clone, Copy, PartialEq, Eq, Debug)]
 pub struct Found {
     pub entry: u16,
     pub page: PageEntry,
     pub compared: u16,
 }
 
-// Why a search found nothing, how many entries were compared, and the last of them.
-#[derive(Clone, Copy)]
-pub struct SearchFault {
+// What a search found, and how its chain goes on behind the entry.
+#[derive(Clone, Copy, PartialEq, Eq, Debug)]
+pub struct Linked {
+    pub found: Found,
+    pub link: Link,
+}
+
+// Why a search or a request was refused, how many entries were compared, and the last of them.
+#[derive(Clone, Copy, PartialEq, Eq, Debug)]
+pub struct Fault {
     pub refusal: Refusal,
     pub compared: u16,
     pub last: Option<u16>,
 }
 
-// What comes of one comparison: the end of the search, or the next entry.
-#[derive(Clone, Copy)]
-pub enum Turn {
-    Stop(Result<Found, SearchFault>),
-    On(u16),
+// The entries that a walk compared, in their order, and what came of it.
+#[derive(Drop)]
+pub struct Trace {
+    pub entries: Vec<u16>,
+    pub outcome: Result<Found, Fault>,
 }
+
+// What comes of one comparison: what the walk found, or the next entry.
+pub(crate) type Turn<E> = Result<ControlFlow<E, u16>, Fault>;

@@ -1,12 +1,11 @@
-ghost use Rattle.std.specs.Prelude.{◌≡◌, ℕ, ◌+◌, ◌*◌, ◌^◌, ◌<◌, ◌≤◌, ◌⊎◌, MatchOption};
+ghost use Rattle.std.specs.Prelude.{◌≡◌, ℕ, ◌+◌, ◌*◌, ◌^◌, ◌⊎◌};
 ghost use Rattle.paging.specs.declared.geometry.PageGeometry.{PageGeometry};
 ghost use Rattle.std.proofs.Common.{rules};
 
-use crate::base::BaseNumber;
 use crate::geometry::PageGeometry;
 
-// How virtual and real storage is cut into pages. The constants are the form's numbers; a clause cannot read a constant of a
-// trait, so `sizes` says what they are, and `geometry` hands them on.
+// How virtual and real storage is cut into pages. The constants are the form's numbers, `sizes` says what they are, and
+// `geometry` hands them on.
 pub trait PageForm {
     const PAGE_BYTES: u32;
 
@@ -16,22 +15,12 @@ pub trait PageForm {
 
     const HIGHEST_BASE: u32;
 
-    // a base number that the form allows
-    type Base: Copy;
-
     ghost sizes: { PageGeometry };
 
-    ghost base: { Self.Base → ℕ };
-
+    // Each form has a body of its own: one body for all would need each constant as a ghost member too and a law that ties
+    // `sizes` to them, so a form would state its numbers three times, and not twice.
     fn geometry() -> PageGeometry
         ensures { result ≡ sizes };
-
-    // The base number, unless it is above the highest.
-    fn base_number(number: u32) -> Option<Self::Base>
-        ensures { MatchOption result (sizes.highest < number) (λ b. base b ≡ number) };
-
-    fn number_of(b: Self::Base) -> u32
-        ensures { result ≡ base b };
 
     // a page number has 16 or 17 bits
     ghost wide: { (sizes.width ≡ 16) ⊎ (sizes.width ≡ 17) };
@@ -44,8 +33,6 @@ pub trait PageForm {
 
     // there are as many base numbers as a page has units of 16 bytes
     ghost bases: { (sizes.highest + 1) * 16 ≡ sizes.page };
-
-    ghost low: { (b : Self.Base) → base b ≤ sizes.highest };
 }
 
 // Pages of 2,048 bytes.
@@ -65,11 +52,7 @@ impl PageForm for Form2K {
 
     const HIGHEST_BASE: u32 = 127;
 
-    type Base = BaseNumber<127>;
-
     ghost sizes = { record { page = 2048; line = 128; width = 17; highest = 127 } };
-
-    ghost base = { λ b. b.number };
 
     ghost wide = { Prim.search rules };
 
@@ -79,8 +62,6 @@ impl PageForm for Form2K {
 
     ghost bases = { Prim.search rules };
 
-    ghost low = { Prim.search rules };
-
     fn geometry() -> PageGeometry {
         PageGeometry {
             page: Self::PAGE_BYTES,
@@ -88,14 +69,6 @@ impl PageForm for Form2K {
             width: Self::NUMBER_BITS,
             highest: Self::HIGHEST_BASE,
         }
-    }
-
-    fn base_number(number: u32) -> Option<BaseNumber<127>> {
-        BaseNumber::new(number)
-    }
-
-    fn number_of(b: BaseNumber<127>) -> u32 {
-        b.number
     }
 }
 
@@ -108,11 +81,7 @@ impl PageForm for Form4K {
 
     const HIGHEST_BASE: u32 = 255;
 
-    type Base = BaseNumber<255>;
-
     ghost sizes = { record { page = 4096; line = 256; width = 16; highest = 255 } };
-
-    ghost base = { λ b. b.number };
 
     ghost wide = { Prim.search rules };
 
@@ -122,8 +91,6 @@ impl PageForm for Form4K {
 
     ghost bases = { Prim.search rules };
 
-    ghost low = { Prim.search rules };
-
     fn geometry() -> PageGeometry {
         PageGeometry {
             page: Self::PAGE_BYTES,
@@ -131,13 +98,5 @@ impl PageForm for Form4K {
             width: Self::NUMBER_BITS,
             highest: Self::HIGHEST_BASE,
         }
-    }
-
-    fn base_number(number: u32) -> Option<BaseNumber<255>> {
-        BaseNumber::new(number)
-    }
-
-    fn number_of(b: BaseNumber<255>) -> u32 {
-        b.number
     }
 }

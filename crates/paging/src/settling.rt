@@ -2,6 +2,7 @@ ghost use Rattle.std.specs.Prelude.{◌≡◌, ◌+◌, ◌*◌, ◌^◌, ◌<�
 ghost use Rattle.paging.specs.Plan.{storage_bytes, page_count, table_start, table_bytes, draft_refusal};
 
 use crate::address::RealAddress;
+use crate::base::BaseNumber;
 use crate::draft::{Draft, RefusedDraft};
 use crate::form::PageForm;
 use crate::plan::SettledPlan;
@@ -17,7 +18,7 @@ pub struct TableSpan {
 impl<F: PageForm> Draft<F> {
     // Settles the plan, or hands the draft back as it was.
     pub fn settle(self) -> Result<SettledPlan<F>, RefusedDraft<F>>
-        ensures { MatchResult result (λ s. (draft_refusal F.PageForm.sizes self.exponent self.base ≡ None) × (s.form ≡ self.form) × (s.exponent ≡ self.exponent) × (F.PageForm.base s.base ≡ self.base)) (λ e. (draft_refusal F.PageForm.sizes self.exponent self.base ≡ Some e.refusal) × (e.draft ≡ self)) }
+        ensures { MatchResult result (λ s. (draft_refusal F.PageForm.sizes self.exponent self.base ≡ None) × (s.form ≡ self.form) × (s.exponent ≡ self.exponent) × (s.base.number ≡ self.base)) (λ e. (draft_refusal F.PageForm.sizes self.exponent self.base ≡ Some e.refusal) × (e.draft ≡ self)) }
     {
         if self.exponent < 16 || self.exponent > 24 {
             return Err(RefusedDraft {
@@ -25,7 +26,7 @@ impl<F: PageForm> Draft<F> {
                 refusal: Refusal::ExponentOutside,
             });
         }
-        match F::base_number(self.base) {
+        match BaseNumber::new(self.base) {
             Some(base) => {
                 let Draft {
                     form,
@@ -49,7 +50,7 @@ impl<F: PageForm> Draft<F> {
 impl<F: PageForm> SettledPlan<F> {
     // The plan as a draft again, to be altered and settled anew.
     pub fn redraft(self) -> Draft<F>
-        ensures { (result.form ≡ self.form) × (result.exponent ≡ self.exponent) × (result.base ≡ F.PageForm.base self.base) }
+        ensures { (result.form ≡ self.form) × (result.exponent ≡ self.exponent) × (result.base ≡ self.base.number) }
     {
         let SettledPlan {
             form,
@@ -59,7 +60,7 @@ impl<F: PageForm> SettledPlan<F> {
         Draft {
             form,
             exponent,
-            base: F::number_of(base),
+            base: base.number(),
         }
     }
 
@@ -82,7 +83,7 @@ impl<F: PageForm> SettledPlan<F> {
 
     // Where the page table lies: whole inside the storage.
     pub fn table(&self) -> TableSpan
-        ensures start { result.start.number ≡ table_start F.PageForm.sizes self.now.exponent (F.PageForm.base self.now.base) }
+        ensures start { result.start.number ≡ table_start F.PageForm.sizes self.now.exponent self.now.base.number }
         ensures entries { result.entries ≡ page_count F.PageForm.sizes self.now.exponent }
         ensures some { 16 ≤ result.entries }
         ensures few { result.entries ≤ 8192 }
@@ -90,7 +91,7 @@ impl<F: PageForm> SettledPlan<F> {
         ensures inside { result.start.number + table_bytes F.PageForm.sizes self.now.exponent ≤ storage_bytes self.now.exponent }
     {
         let entries = self.page_count();
-        let number = F::number_of(self.base) * 16 * entries;
+        let number = self.base.number() * 16 * entries;
         TableSpan {
             start: RealAddress { number },
             entries,

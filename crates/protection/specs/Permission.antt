@@ -2,7 +2,7 @@
 use Rattle.std.specs.Prelude.{◌≡◌, Bool, true, false, not, cond, ◌&&◌, ◌||◌, ℕ, ◌-◌, ◌/◌, ◌%◌, ◌^◌, eqb}
 use Rattle.paging.specs.declared.geometry.PageGeometry.{PageGeometry}
 use Rattle.paging.specs.Address.{line_of}
-use Rattle.next_page_table.specs.declared.entry.PageEntry.{PageEntry}
+use Rattle.page_table.specs.declared.entry.PageEntry.{PageEntry}
 use Rattle.protection.specs.declared.access_type.AccessType.{AccessType}
 use Rattle.protection.specs.declared.access_type.AccessType.TheVariants.{Load, Store}
 use Rattle.protection.specs.declared.register.SegmentRegister.{SegmentRegister}

@@ -3,7 +3,7 @@ ghost use Rattle.protection.specs.Permission.{is_load, key_permits, lock_bit, lo
 
 use crate::access_type::AccessType;
 use crate::register::SegmentRegister;
-use next_page_table::entry::PageEntry;
+use page_table::entry::PageEntry;
 use paging::address::VirtualAddress;
 use paging::form::PageForm;
 
@@ -11,10 +11,7 @@ impl AccessType {
     pub fn is_load(self) -> bool
         ensures { result ≡ is_load self }
     {
-        match self {
-            AccessType::Load => true,
-            AccessType::Store => false,
-        }
+        matches!(self, AccessType::Load)
     }
 }
 
@@ -42,6 +39,7 @@ fn lock_bit(locks: u16, line: u32) -> bool
 fn locks_permit(write: bool, lock: bool, access: AccessType) -> bool
     ensures { result ≡ locks_permit write lock access }
 {
+    // the table of the machine, row by row
     match access {
         AccessType::Load => write || lock,
         AccessType::Store => write && lock,

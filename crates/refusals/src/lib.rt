@@ -17,7 +17,7 @@ impl Refusal {
         self as u8
     }
 
-    // The reason in words.
+    // The reason in words. A derived error would repeat the number in each text.
     fn reason(self) -> &'static str {
         match self {
             Refusal::ExponentOutside => "the size exponent is outside 16 to 24",

@@ -1,6 +1,6 @@
 -- What one call of a run answers, and what it leaves in the unit and in the storage.
 use Rattle.std.specs.Prelude.{ℕ, List, Ok}
-use Rattle.paging.specs.declared.geometry.PageGeometry.{PageGeometry}
+use Rattle.paging.specs.Numbers.{PlanNumbers}
 use Rattle.exceptions.specs.Raising.{cleared}
 use Rattle.unit_state.specs.declared.state.UnitState.{UnitState}
 use Rattle.unit_state.specs.Answers.{passed, unless}
@@ -12,26 +12,26 @@ use Rattle.runs.specs.declared.call.Call.TheVariants.{Load, Store, ReadException
 use Rattle.runs.specs.declared.call.Reply.{Reply}
 use Rattle.runs.specs.declared.call.Reply.TheVariants.{Request, Exceptions, Mark, Cleared}
 
-abbrev pub reply_of : PageGeometry → ℕ → ℕ → List ℕ → UnitState → Call → Reply
-reply_of f k b ws s (Load address w) = Request (load_answer f k b ws s w address)
-reply_of f k b ws s (Store address w value) = Request (store_answer f k b ws s w address value)
-reply_of f k b ws s ReadExceptions = Exceptions s.exceptions
-reply_of f k b ws s ClearExceptions = Cleared (Ok tt)
-reply_of f k b ws s (ReadMark page) = Mark (passed (mark_refusal f k page) (mark_of s page))
-reply_of f k b ws s (ClearMark page) = Cleared (passed (mark_refusal f k page) tt)
+abbrev pub reply_of : PlanNumbers → List ℕ → UnitState → Call → Reply
+reply_of plan ws s (Load address w) = Request (load_answer plan ws s w address)
+reply_of plan ws s (Store address w value) = Request (store_answer plan ws s w address value)
+reply_of plan ws s ReadExceptions = Exceptions s.exceptions
+reply_of plan ws s ClearExceptions = Cleared (Ok tt)
+reply_of plan ws s (ReadMark page) = Mark (passed (mark_refusal plan page) (mark_of s page))
+reply_of plan ws s (ClearMark page) = Cleared (passed (mark_refusal plan page) tt)
 
-abbrev pub state_after : PageGeometry → ℕ → ℕ → List ℕ → UnitState → Call → UnitState
-state_after f k b ws s (Load address w) = after_load f k b ws s w address
-state_after f k b ws s (Store address w value) = after_store f k b ws s w address value
-state_after f k b ws s ReadExceptions = s
-state_after f k b ws s ClearExceptions = with_exceptions s (cleared s.exceptions)
-state_after f k b ws s (ReadMark page) = s
-state_after f k b ws s (ClearMark page) = unless (mark_refusal f k page) s (cleared_page s page)
+abbrev pub state_after : PlanNumbers → List ℕ → UnitState → Call → UnitState
+state_after plan ws s (Load address w) = after_load plan ws s w address
+state_after plan ws s (Store address w value) = after_store plan ws s w address value
+state_after plan ws s ReadExceptions = s
+state_after plan ws s ClearExceptions = with_exceptions s (cleared s.exceptions)
+state_after plan ws s (ReadMark page) = s
+state_after plan ws s (ClearMark page) = unless (mark_refusal plan page) s (cleared_page s page)
 
-abbrev pub words_after : PageGeometry → ℕ → ℕ → List ℕ → UnitState → Call → List ℕ
-words_after f k b ws s (Load address w) = ws
-words_after f k b ws s (Store address w value) = store_words f k b ws s w address value
-words_after f k b ws s ReadExceptions = ws
-words_after f k b ws s ClearExceptions = ws
-words_after f k b ws s (ReadMark page) = ws
-words_after f k b ws s (ClearMark page) = ws
+abbrev pub words_after : PlanNumbers → List ℕ → UnitState → Call → List ℕ
+words_after plan ws s (Load address w) = ws
+words_after plan ws s (Store address w value) = store_words plan ws s w address value
+words_after plan ws s ReadExceptions = ws
+words_after plan ws s ClearExceptions = ws
+words_after plan ws s (ReadMark page) = ws
+words_after plan ws s (ClearMark page) = ws

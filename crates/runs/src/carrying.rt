@@ -1,8 +1,9 @@
 ghost use Rattle.std.specs.Prelude.{◌≡◌};
+ghost use Rattle.paging.specs.Numbers.{numbers_of};
 ghost use Rattle.runs.specs.Step.{reply_of, state_after, words_after};
 
 use crate::call::{Call, Reply};
-use next_mmu::unit::MemoryUnit;
+use mmu::unit::MemoryUnit;
 use paging::form::PageForm;
 use storage::words::{ReadStorage, Storage};
 
@@ -12,12 +13,13 @@ pub fn carry_out<F: PageForm, S: Storage>(
     storage: &mut S,
     call: Call,
 ) -> Reply
-    ensures reply { result ≡ reply_of F.PageForm.sizes unit.old.plan.exponent (F.PageForm.base unit.old.plan.base) (S.ReadStorage.words storage.old) unit.old.state call }
-    ensures state { unit.new.state ≡ state_after F.PageForm.sizes unit.old.plan.exponent (F.PageForm.base unit.old.plan.base) (S.ReadStorage.words storage.old) unit.old.state call }
-    ensures words { S.ReadStorage.words storage.new ≡ words_after F.PageForm.sizes unit.old.plan.exponent (F.PageForm.base unit.old.plan.base) (S.ReadStorage.words storage.old) unit.old.state call }
+    ensures reply { result ≡ reply_of (numbers_of unit.old.plan) (S.ReadStorage.words storage.old) unit.old.state call }
+    ensures state { unit.new.state ≡ state_after (numbers_of unit.old.plan) (S.ReadStorage.words storage.old) unit.old.state call }
+    ensures words { S.ReadStorage.words storage.new ≡ words_after (numbers_of unit.old.plan) (S.ReadStorage.words storage.old) unit.old.state call }
     ensures plan { unit.new.plan ≡ unit.old.plan }
     ensures lenders { S.Storage.lenders storage.new ≡ S.Storage.lenders storage.old }
 {
+    // A call is data, so that a run can be written down. No closure could be compared or kept.
     match call {
         Call::Load(address, width) => Reply::Request(unit.load(storage, address, width)),
         Call::Store(address, width, value) => {

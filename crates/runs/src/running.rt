@@ -1,9 +1,10 @@
 ghost use Rattle.std.specs.Prelude.{◌≡◌, ◌≤◌, [], length, vec_len, vec_capacity, MatchResult};
+ghost use Rattle.paging.specs.Numbers.{numbers_of};
 ghost use Rattle.runs.specs.Fold.{replies_from, state_from, words_from, Ran};
 
 use crate::call::{Call, Reply};
 use crate::carrying::carry_out;
-use next_mmu::unit::MemoryUnit;
+use mmu::unit::MemoryUnit;
 use paging::form::PageForm;
 use std::alloc::{AllocError, Global};
 use storage::words::{ReadStorage, Storage};
@@ -17,9 +18,9 @@ fn play<F: PageForm, S: Storage>(
 )
     requires none { replies.old.items ≡ [] }
     requires room { length calls.now ≤ vec_capacity replies.old }
-    ensures replies { replies.new.items ≡ replies_from F.PageForm.sizes unit.old.plan.exponent (F.PageForm.base unit.old.plan.base) (S.ReadStorage.words storage.old) unit.old.state calls.now }
-    ensures state { unit.new.state ≡ state_from F.PageForm.sizes unit.old.plan.exponent (F.PageForm.base unit.old.plan.base) (S.ReadStorage.words storage.old) unit.old.state calls.now }
-    ensures words { S.ReadStorage.words storage.new ≡ words_from F.PageForm.sizes unit.old.plan.exponent (F.PageForm.base unit.old.plan.base) (S.ReadStorage.words storage.old) unit.old.state calls.now }
+    ensures replies { replies.new.items ≡ replies_from (numbers_of unit.old.plan) (S.ReadStorage.words storage.old) unit.old.state calls.now }
+    ensures state { unit.new.state ≡ state_from (numbers_of unit.old.plan) (S.ReadStorage.words storage.old) unit.old.state calls.now }
+    ensures words { S.ReadStorage.words storage.new ≡ words_from (numbers_of unit.old.plan) (S.ReadStorage.words storage.old) unit.old.state calls.now }
     ensures plan { unit.new.plan ≡ unit.old.plan }
     ensures lenders { S.Storage.lenders storage.new ≡ S.Storage.lenders storage.old }
 {
@@ -36,7 +37,7 @@ pub fn run<F: PageForm, S: Storage>(
     storage: &mut S,
     calls: &[Call],
 ) -> Result<Vec<Reply>, AllocError>
-    ensures run { MatchResult result (λ v. Ran F.PageForm.sizes unit.old.plan.exponent (F.PageForm.base unit.old.plan.base) (S.ReadStorage.words storage.old) (S.ReadStorage.words storage.new) unit.old.state unit.new.state calls.now v.items) (λ _. (unit.new.state ≡ unit.old.state) × (S.ReadStorage.words storage.new ≡ S.ReadStorage.words storage.old)) }
+    ensures run { MatchResult result (λ v. Ran (numbers_of unit.old.plan) (S.ReadStorage.words storage.old) (S.ReadStorage.words storage.new) unit.old.state unit.new.state calls.now v.items) (λ _. (unit.new.state ≡ unit.old.state) × (S.ReadStorage.words storage.new ≡ S.ReadStorage.words storage.old)) }
     ensures plan { unit.new.plan ≡ unit.old.plan }
     ensures lenders { S.Storage.lenders storage.new ≡ S.Storage.lenders storage.old }
 {

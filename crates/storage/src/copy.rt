@@ -15,6 +15,7 @@ pub fn copy_words<A: ReadStorage, B: Storage>(from: &A, to: &mut B) -> Result<()
     if count > to.count() {
         return Err(Refusal::WordOutside);
     }
+    // by number, since a storage lends no slice that an iterator could go over
     for n in 0..count {
         let word = from.read(n)?;
         to.write(n, word, 15)?;

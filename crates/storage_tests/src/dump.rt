@@ -7,8 +7,8 @@ use storage::words::{ReadStorage, Storage};
 
 // Word k of block b is b * 0x01000000 + k: its bytes are b, 0, k / 256 and k % 256. A block has 2,048 bytes.
 fn mark(bytes: &mut [u8]) {
-    for at in 0..bytes.len() {
-        bytes[at] = match at % 4 {
+    for (at, byte) in bytes.iter_mut().enumerate() {
+        *byte = match at % 4 {
             0 => (at / 2048 % 256) as u8,
             1 => 0,
             2 => (at % 2048 / 1024) as u8,
@@ -19,8 +19,8 @@ fn mark(bytes: &mut [u8]) {
 
 // Each page number below the length once, the highest first.
 fn reverse(pages: &mut [u16]) {
-    for block in 0..pages.len() {
-        pages[block] = ((pages.len() - 1 - block) % 65536) as u16;
+    for (number, page) in pages.iter_mut().rev().enumerate() {
+        *page = (number % 65536) as u16;
     }
 }
 

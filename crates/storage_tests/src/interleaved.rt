@@ -1,9 +1,8 @@
-use crate::cases::{holds, number};
+use crate::cases::{holds, number, refuses, takes_four_writes, writes_beside_a_dump};
 use boards::interleaved::Interleaved;
 use boards::ram::RamBoard;
 use boards::stacked::Stacked;
 use dump_board::board::DumpBoard;
-use refusals::refusal::Refusal;
 use std::process::Abort;
 use storage::words::{ReadStorage, Storage};
 
@@ -47,16 +46,7 @@ fn writes_by_turns(rt: HostRuntime) {
     let mut first = [0u8; 12];
     let mut second = [0u8; 8];
     let mut pair = Interleaved::new(RamBoard::new(&mut first), RamBoard::new(&mut second));
-    assert_eq!(rt; number(pair.write(0, 0x11223344, 15)), 0);
-    // mask 9 is for the first and the last byte, mask 4 for the second
-    assert_eq!(rt; number(pair.write(1, 0xaabbccdd, 9)), 0);
-    assert_eq!(rt; number(pair.write(2, 0xaabbccdd, 4)), 0);
-    assert_eq!(rt; number(pair.write(3, 0x55667788, 15)), 0);
-    holds(
-        &rt,
-        &pair,
-        &[0x11223344, 0xaa0000dd, 0x00bb0000, 0x55667788],
-    );
+    takes_four_writes(&rt, &mut pair);
     assert_eq!(rt;
         first,
         [0x11u8, 0x22, 0x33, 0x44, 0, 0xbb, 0, 0, 0, 0, 0, 0]
@@ -78,10 +68,7 @@ fn refused_writes(rt: HostRuntime) {
         (0, 16, 17),
         (1, 255, 17),
     ];
-    for (word, mask, want) in cases.iter() {
-        assert_eq!(rt; number(pair.write(*word, 0, *mask)), *want);
-        holds(&rt, &pair, &[0x01020304, 0x090a0b0c]);
-    }
+    refuses(&rt, &mut pair, 0, &cases, &[0x01020304, 0x090a0b0c]);
     assert_eq!(rt; first, [1u8, 2, 3, 4, 5, 6, 7, 8]);
 }
 
@@ -108,13 +95,7 @@ fn over_a_stacked_pair(rt: HostRuntime) {
 
 // A pair of two storages of 1,024 words.
 fn by_turns<A: Storage + Drop, B: Storage + Drop>(rt: &impl Abort, first: A, second: B) {
-    let mut pair = Interleaved::new(first, second);
-    assert_eq!(rt; pair.count(), 2048);
-    assert_eq!(rt; number(pair.write(1025, 0x01020304, 15)), 0);
-    assert_eq!(rt; number(pair.write(1024, 0x05060708, 15)), 0);
-    assert_eq!(rt; number(pair.write(2048, 0, 15)), 16);
-    assert_eq!(rt; pair.read(1025), Ok(0x01020304));
-    assert_eq!(rt; pair.read(2048), Err(Refusal::WordOutside));
+    writes_beside_a_dump(rt, &mut Interleaved::new(first, second), 2048, 1025, 1024);
 }
 
 // A dump board in a pair: block 0 holds page 1, so word 512 of the dump, word 1,025 of the pair, begins at its byte 0.

@@ -1,6 +1,7 @@
 #![tactic(auto)]
 
-// Tests of the storage boards through their public functions. What they expect is worked out by hand from the rules.
+// Tests of the storage boards through their public functions. What they expect is worked out by hand from the rules. The two
+// pairs are tested by like steps, on cases of their own, since a word lies elsewhere in each.
 #[cfg(test)]
 mod cases;
 #[cfg(test)]

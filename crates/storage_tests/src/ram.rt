@@ -1,4 +1,4 @@
-use crate::cases::{holds, number};
+use crate::cases::{holds, number, refuses};
 use boards::ram::RamBoard;
 use refusals::refusal::Refusal;
 use std::test::Fail;
@@ -39,16 +39,13 @@ fn every_mask(rt: HostRuntime) {
         0xaabbcc44,
         0xaabbccdd,
     ];
-    let mut mask = 0u8;
-    for word in want.iter() {
+    assert_eq!(rt; want.len(), 16);
+    for (mask, word) in (0u8..16).zip(want.iter()) {
         let mut bytes = [1u8, 2, 3, 4, 0x11, 0x22, 0x33, 0x44, 9, 10, 11, 12];
         let mut board = RamBoard::new(&mut bytes);
         assert_eq!(rt; board.write(1, 0xaabbccdd, mask), Ok(()));
         holds(&rt, &board, &[0x01020304, *word, 0x090a0b0c]);
-        assert!(rt; mask < 16);
-        mask += 1;
     }
-    assert_eq!(rt; mask, 16);
 }
 
 // A word number at or above the count is refused with 16, and only else a mask above 15 with 17. Nothing is altered.
@@ -68,10 +65,13 @@ fn refused_writes(rt: HostRuntime) {
         (0, 255, 17),
     ];
     let mut board = RamBoard::new(&mut bytes);
-    for (word, mask, want) in cases.iter() {
-        assert_eq!(rt; number(board.write(*word, 0xaabbccdd, *mask)), *want);
-        holds(&rt, &board, &[0x01020304, 0x05060708]);
-    }
+    refuses(
+        &rt,
+        &mut board,
+        0xaabbccdd,
+        &cases,
+        &[0x01020304, 0x05060708],
+    );
     assert_eq!(rt; bytes, [1u8, 2, 3, 4, 5, 6, 7, 8, 9]);
 }
 

@@ -1,9 +1,8 @@
-use crate::cases::{holds, number};
+use crate::cases::{holds, number, refuses, takes_four_writes, writes_beside_a_dump};
 use boards::interleaved::Interleaved;
 use boards::ram::RamBoard;
 use boards::stacked::Stacked;
 use dump_board::board::DumpBoard;
-use refusals::refusal::Refusal;
 use std::process::Abort;
 use storage::words::{ReadStorage, Storage};
 
@@ -44,16 +43,7 @@ fn writes_on_both_sides(rt: HostRuntime) {
     let mut first = [0u8; 11];
     let mut second = [0u8; 8];
     let mut pair = Stacked::new(RamBoard::new(&mut first), RamBoard::new(&mut second));
-    assert_eq!(rt; number(pair.write(0, 0x11223344, 15)), 0);
-    // mask 9 is for the first and the last byte, mask 4 for the second
-    assert_eq!(rt; number(pair.write(1, 0xaabbccdd, 9)), 0);
-    assert_eq!(rt; number(pair.write(2, 0xaabbccdd, 4)), 0);
-    assert_eq!(rt; number(pair.write(3, 0x55667788, 15)), 0);
-    holds(
-        &rt,
-        &pair,
-        &[0x11223344, 0xaa0000dd, 0x00bb0000, 0x55667788],
-    );
+    takes_four_writes(&rt, &mut pair);
     assert_eq!(rt;
         first,
         [0x11u8, 0x22, 0x33, 0x44, 0xaa, 0, 0, 0xdd, 0, 0, 0]
@@ -74,10 +64,7 @@ fn refused_writes(rt: HostRuntime) {
         (0, 16, 17),
         (1, 255, 17),
     ];
-    for (word, mask, want) in cases.iter() {
-        assert_eq!(rt; number(pair.write(*word, 0, *mask)), *want);
-        holds(&rt, &pair, &[0x01020304, 0x05060708]);
-    }
+    refuses(&rt, &mut pair, 0, &cases, &[0x01020304, 0x05060708]);
 }
 
 // Pairs stand in pairs. The second is an interleaved pair of two words and one, which has two words.
@@ -98,13 +85,7 @@ fn over_an_interleaved_pair(rt: HostRuntime) {
 
 // A pair behind whose first storage, of one word, a dump stands.
 fn behind_one_word<A: Storage + Drop, B: Storage + Drop>(rt: &impl Abort, first: A, second: B) {
-    let mut pair = Stacked::new(first, second);
-    assert_eq!(rt; pair.count(), 1025);
-    assert_eq!(rt; number(pair.write(1, 0x01020304, 15)), 0);
-    assert_eq!(rt; number(pair.write(0, 0x05060708, 15)), 0);
-    assert_eq!(rt; number(pair.write(1025, 0, 15)), 16);
-    assert_eq!(rt; pair.read(1), Ok(0x01020304));
-    assert_eq!(rt; pair.read(1025), Err(Refusal::WordOutside));
+    writes_beside_a_dump(rt, &mut Stacked::new(first, second), 1025, 1, 0);
 }
 
 // A dump board in a pair: block 1 holds page 0, so its word 0, word 1 of the pair, begins at byte 2,048.

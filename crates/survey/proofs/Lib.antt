@@ -1,3 +1,3 @@
-mod Readings
-mod Drawing
-mod Sameness
+mod Listing
+mod Steps
+mod Failing

@@ -1,1 +1,4 @@
 pub mod Markers
+pub mod Readings
+pub mod Calls
+pub mod Check

@@ -1,10 +1,12 @@
 #![tactic(auto)]
 
-pub mod agreement;
-pub mod check;
+pub mod board_check;
+pub mod call_check;
+pub mod calls;
 pub mod findings;
-pub mod image;
-pub mod marker;
 pub mod on_boards;
-pub mod sites;
+pub mod page_marks;
+pub mod readings;
+pub mod real_loads;
+pub mod site_check;
 pub mod trouble;

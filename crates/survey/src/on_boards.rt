@@ -1,10 +1,12 @@
-ghost use Rattle.std.specs.Prelude.{IfOk};
-ghost use Rattle.boards.specs.Ram.{ram_words};
-ghost use Rattle.survey.specs.Markers.{Checked};
+#![tactic(auto, using(crate::proofs::Failing::failing))]
 
-use crate::check::check_storage;
+ghost use Rattle.std.specs.Prelude.{IfOk};
+ghost use Rattle.paging.specs.Numbers.{drafted};
+ghost use Rattle.boards.specs.Ram.{ram_words};
+ghost use Rattle.survey.specs.Check.{Checked};
+
+use crate::board_check::BoardCheck;
 use crate::findings::Findings;
-use crate::marker::Site;
 use crate::trouble::Trouble;
 use boards::interleaved::Interleaved;
 use boards::ram::RamBoard;
@@ -25,77 +27,81 @@ const SHUFFLED: [u16; 32] = [
     23, 4, 17, 30, 11, 24,
 ];
 
-// Checks an image on a RAM board.
-pub fn on_ram_board<F: PageForm + Drop>(
-    heap: Global,
-    draft: Draft<F>,
-    image: &mut [u8],
-    sites: &[Site],
-) -> Result<(Findings, Draft<F>), Trouble>
-    ensures { IfOk result (Checked F.PageForm.sizes draft (ram_words image.old) sites.now) }
-{
-    check_storage(heap, draft, &RamBoard::new(image), sites)
-}
-
-// Lays an image out on a board of the same size, and checks it there.
-fn on_board<F: PageForm + Drop, S: Storage>(
+// Lays an image out on a board of the same size, and checks it there. Heap, draft, image and check are no struct, since the draft
+// goes into a unit and comes back, while the others are only lent.
+fn on_board<F: PageForm + Drop, S: Storage, C: BoardCheck>(
     heap: Global,
     draft: Draft<F>,
     image: &mut [u8],
     board: &mut S,
-    sites: &[Site],
-) -> Result<(Findings, Draft<F>), Trouble>
-    ensures { IfOk result (Checked F.PageForm.sizes draft (ram_words image.old) sites.now) }
+    check: &C,
+) -> Result<(Findings<C::Item>, Draft<F>), Trouble>
+    ensures { IfOk result (Checked F.PageForm.sizes draft (C.Found (drafted F.PageForm.sizes draft) (ram_words image.old) check.now) (C.left (drafted F.PageForm.sizes draft) (ram_words image.old) check.now)) }
 {
     let source = RamBoard::new(image);
     if source.count() != board.count() {
         return Err(Trouble::Refused(Refusal::SizeDiffers));
     }
     copy_words(&source, board)?;
-    check_storage(heap, draft, board, sites)
+    check.check_storage(heap, draft, board)
 }
 
-// Checks an image on two banks as an interleaved pair.
-pub fn on_interleaved_banks<F: PageForm + Drop>(
+// Checks a copy of an image on a RAM board.
+pub fn on_ram_board<F: PageForm + Drop, C: BoardCheck>(
     heap: Global,
     draft: Draft<F>,
     image: &mut [u8],
-    sites: &[Site],
-) -> Result<(Findings, Draft<F>), Trouble>
-    ensures { IfOk result (Checked F.PageForm.sizes draft (ram_words image.old) sites.now) }
+    check: &C,
+) -> Result<(Findings<C::Item>, Draft<F>), Trouble>
+    ensures { IfOk result (Checked F.PageForm.sizes draft (C.Found (drafted F.PageForm.sizes draft) (ram_words image.old) check.now) (C.left (drafted F.PageForm.sizes draft) (ram_words image.old) check.now)) }
+{
+    let mut copy = vec![in heap; 0u8; IMAGE_BYTES]?;
+    let mut board = RamBoard::new(&mut copy);
+    on_board(heap, draft, image, &mut board, check)
+}
+
+// Checks an image on two banks as an interleaved pair. That pair and the stacked one are made apart: a parameter that makes
+// either would have to name how long the banks are lent.
+pub fn on_interleaved_banks<F: PageForm + Drop, C: BoardCheck>(
+    heap: Global,
+    draft: Draft<F>,
+    image: &mut [u8],
+    check: &C,
+) -> Result<(Findings<C::Item>, Draft<F>), Trouble>
+    ensures { IfOk result (Checked F.PageForm.sizes draft (C.Found (drafted F.PageForm.sizes draft) (ram_words image.old) check.now) (C.left (drafted F.PageForm.sizes draft) (ram_words image.old) check.now)) }
 {
     let mut even = vec![in heap; 0u8; IMAGE_BYTES / 2]?;
     let mut odd = vec![in heap; 0u8; IMAGE_BYTES / 2]?;
     let mut board = Interleaved::new(RamBoard::new(&mut even), RamBoard::new(&mut odd));
-    on_board(heap, draft, image, &mut board, sites)
+    on_board(heap, draft, image, &mut board, check)
 }
 
 // Checks an image on two banks as a stacked pair.
-pub fn on_stacked_banks<F: PageForm + Drop>(
+pub fn on_stacked_banks<F: PageForm + Drop, C: BoardCheck>(
     heap: Global,
     draft: Draft<F>,
     image: &mut [u8],
-    sites: &[Site],
-) -> Result<(Findings, Draft<F>), Trouble>
-    ensures { IfOk result (Checked F.PageForm.sizes draft (ram_words image.old) sites.now) }
+    check: &C,
+) -> Result<(Findings<C::Item>, Draft<F>), Trouble>
+    ensures { IfOk result (Checked F.PageForm.sizes draft (C.Found (drafted F.PageForm.sizes draft) (ram_words image.old) check.now) (C.left (drafted F.PageForm.sizes draft) (ram_words image.old) check.now)) }
 {
     let mut low = vec![in heap; 0u8; IMAGE_BYTES / 2]?;
     let mut high = vec![in heap; 0u8; IMAGE_BYTES / 2]?;
     let mut board = Stacked::new(RamBoard::new(&mut low), RamBoard::new(&mut high));
-    on_board(heap, draft, image, &mut board, sites)
+    on_board(heap, draft, image, &mut board, check)
 }
 
 // Checks an image on a dump board whose blocks are shuffled.
-pub fn on_dump_board<F: PageForm + Drop>(
+pub fn on_dump_board<F: PageForm + Drop, C: BoardCheck>(
     heap: Global,
     draft: Draft<F>,
     image: &mut [u8],
-    sites: &[Site],
-) -> Result<(Findings, Draft<F>), Trouble>
-    ensures { IfOk result (Checked F.PageForm.sizes draft (ram_words image.old) sites.now) }
+    check: &C,
+) -> Result<(Findings<C::Item>, Draft<F>), Trouble>
+    ensures { IfOk result (Checked F.PageForm.sizes draft (C.Found (drafted F.PageForm.sizes draft) (ram_words image.old) check.now) (C.left (drafted F.PageForm.sizes draft) (ram_words image.old) check.now)) }
 {
     let mut blocks = vec![in heap; 0u8; IMAGE_BYTES]?;
     let mut board = DumpBoard::new(&mut blocks);
     board.fill(&SHUFFLED)?;
-    on_board(heap, draft, image, &mut board, sites)
+    on_board(heap, draft, image, &mut board, check)
 }

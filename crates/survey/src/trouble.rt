@@ -1,17 +1,21 @@
 ghost use Rattle.std.specs.Prelude.{◌≡◌};
 ghost use Rattle.survey.specs.declared.trouble.Trouble.TheVariants.{Memory, Refused};
 
-use mmu::answer::Fault;
+use paging::draft::RefusedDraft;
 use refusals::refusal::Refusal;
 use std::alloc::{AllocError, AllocFailed};
-use std::error::Error;
-use std::fmt;
+use thiserror::Error;
+use unit_state::answer::Fault;
 
-// Why the check of an image stops.
-#[derive(Debug, Drop)]
+// Why the check of an image stops. What it is made from says by `from_gives` which trouble it gives, which a derive would not.
+#[derive(Debug, Drop, Error)]
 pub enum Trouble {
+    #[error("there is not enough memory")]
     Memory,
+    #[error("{0}")]
     Refused(Refusal),
+    #[error("a reply has no value")]
+    NoValue,
 }
 
 impl From<AllocError> for Trouble {
@@ -46,13 +50,11 @@ impl From<Fault> for Trouble {
     }
 }
 
-impl fmt::Display for Trouble {
-    fn fmt<W: fmt::Write>(&self, f: &mut fmt::Formatter<W>) -> fmt::Result {
-        match self {
-            Trouble::Memory => write!(f, "there is not enough memory"),
-            Trouble::Refused(refusal) => write!(f, "{refusal}"),
-        }
+impl<F: Drop> From<RefusedDraft<F>> for Trouble {
+    ghost from_gives = { λ e r. r ≡ Refused e.refusal };
+
+    fn from(e: RefusedDraft<F>) -> Trouble {
+        let RefusedDraft { draft: _, refusal } = e;
+        Trouble::Refused(refusal)
     }
 }
-
-impl Error for Trouble {}

@@ -1,2 +1,2 @@
 mod Blocks
-mod Sameness
+pub mod Sameness

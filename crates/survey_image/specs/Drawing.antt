@@ -3,6 +3,7 @@ use Rattle.std.specs.Prelude.{ℕ, zero, suc, ◌+◌, Bool, cond, ◌&&◌, Lis
 use Rattle.refusals.specs.declared.refusal.Refusal.{Refusal}
 use Rattle.refusals.specs.declared.refusal.Refusal.TheVariants.{WordOutside, SizeDiffers}
 use Rattle.paging.specs.declared.geometry.PageGeometry.{PageGeometry}
+use Rattle.paging.specs.Numbers.{PlanNumbers}
 use Rattle.paging.specs.Plan.{storage_bytes, page_count}
 use Rattle.survey_image.specs.declared.block.Block.{Block}
 use Rattle.survey_image.specs.Layout.{table_block}
@@ -46,5 +47,5 @@ has_image_size k ws = storage_bytes k == 65536 && length ws == 16384
 abbrev pub table_answer : ℕ → List ℕ → Result (Unit {0}) Refusal
 table_answer k ws = cond (has_image_size k ws) (Ok tt) (Err SizeDiffers)
 
-abbrev pub table_after : PageGeometry → ℕ → ℕ → List ℕ → List ℕ
-table_after f k b ws = cond (has_image_size k ws) (table_drawn f b ws (page_count f 16)) ws
+abbrev pub table_after : PlanNumbers → List ℕ → List ℕ
+table_after plan ws = cond (has_image_size plan.exponent ws) (table_drawn plan.form plan.base ws (page_count plan.form 16)) ws

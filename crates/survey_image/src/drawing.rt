@@ -1,9 +1,9 @@
-ghost use Rattle.std.specs.Prelude.{◌≡◌, ◌<◌, length, slice_set};
-ghost use Rattle.survey_image.specs.Layout.{marker_block};
+ghost use Rattle.std.specs.Prelude.{◌≡◌, ◌<◌, length, map, slice_set, MatchResult};
+ghost use Rattle.std.specs.List.{fold};
+ghost use Rattle.refusals.specs.declared.refusal.Refusal.TheVariants.{WordOutside};
 ghost use Rattle.survey_image.specs.Drawing.{draw_answer, drawn, draw_all_answer, drawn_all};
 
-use crate::block::Block;
-use crate::marker::Site;
+use crate::block::AsBlock;
 use refusals::refusal::Refusal;
 use storage::words::{ReadStorage, Storage};
 
@@ -17,11 +17,12 @@ fn put<S: Storage>(storage: &mut S, n: u32, word: u32)
 }
 
 // Writes a block, whole or not at all.
-pub fn draw<S: Storage>(storage: &mut S, block: Block) -> Result<(), Refusal>
-    ensures answer { result ≡ draw_answer (S.ReadStorage.words storage.old) block }
-    ensures after { S.ReadStorage.words storage.new ≡ drawn (S.ReadStorage.words storage.old) block }
+pub fn draw<S: Storage, B: AsBlock>(storage: &mut S, item: &B) -> Result<(), Refusal>
+    ensures answer { result ≡ draw_answer (S.ReadStorage.words storage.old) (B.block item.now) }
+    ensures after { S.ReadStorage.words storage.new ≡ drawn (S.ReadStorage.words storage.old) (B.block item.now) }
     ensures lenders { S.Storage.lenders storage.new ≡ S.Storage.lenders storage.old }
 {
+    let block = item.block();
     let count = storage.count();
     if count < 4 || block.word > count - 4 {
         return Err(Refusal::WordOutside);
@@ -35,29 +36,14 @@ pub fn draw<S: Storage>(storage: &mut S, block: Block) -> Result<(), Refusal>
 }
 
 // Writes blocks, in their order; the first one that has no room ends it.
-pub fn draw_all<S: Storage>(storage: &mut S, blocks: &[Block]) -> Result<(), Refusal>
-    ensures answer { result ≡ draw_all_answer (S.ReadStorage.words storage.old) blocks.now }
-    ensures after { S.ReadStorage.words storage.new ≡ drawn_all (S.ReadStorage.words storage.old) blocks.now }
+pub fn draw_all<S: Storage, B: AsBlock>(storage: &mut S, items: &[B]) -> Result<(), Refusal>
+    ensures answer { result ≡ draw_all_answer (S.ReadStorage.words storage.old) (map B.block items.now) }
+    ensures after { S.ReadStorage.words storage.new ≡ drawn_all (S.ReadStorage.words storage.old) (map B.block items.now) }
+    ensures whole { MatchResult result (λ _. S.ReadStorage.words storage.new ≡ fold drawn (S.ReadStorage.words storage.old) (map B.block items.now)) (λ e. e ≡ WordOutside) }
     ensures lenders { S.Storage.lenders storage.new ≡ S.Storage.lenders storage.old }
 {
-    for block in blocks {
-        draw(storage, *block)?;
+    for item in items {
+        draw(storage, item)?;
     }
     Ok(())
-}
-
-// The words of a marker.
-pub fn marker_block(site: &Site) -> Block
-    ensures { result ≡ marker_block site.now }
-{
-    let [a, b, c, d, e, f, g, h] = site.marker.name;
-    Block {
-        word: u32::from(site.address) / 4,
-        words: [
-            u32::from_be_bytes([a, b, c, d]),
-            u32::from_be_bytes([e, f, g, h]),
-            site.marker.easting,
-            site.marker.northing,
-        ],
-    }
 }

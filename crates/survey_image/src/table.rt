@@ -1,4 +1,5 @@
 ghost use Rattle.std.specs.Prelude.{◌≡◌, ◌+◌, ◌*◌, ◌^◌, ◌<◌, [], ◌∷◌};
+ghost use Rattle.paging.specs.Numbers.{numbers_of};
 ghost use Rattle.survey_image.specs.Layout.{tag_word, chain_word};
 ghost use Rattle.survey_image.specs.Drawing.{table_answer, table_after};
 
@@ -53,7 +54,7 @@ pub fn draw_table<F: PageForm, S: Storage>(
     plan: &SettledPlan<F>,
 ) -> Result<(), Refusal>
     ensures answer { result ≡ table_answer plan.now.exponent (S.ReadStorage.words storage.old) }
-    ensures after { S.ReadStorage.words storage.new ≡ table_after F.PageForm.sizes plan.now.exponent (F.PageForm.base plan.now.base) (S.ReadStorage.words storage.old) }
+    ensures after { S.ReadStorage.words storage.new ≡ table_after (numbers_of plan.now) (S.ReadStorage.words storage.old) }
     ensures lenders { S.Storage.lenders storage.new ≡ S.Storage.lenders storage.old }
 {
     if plan.storage_bytes() != 65536 || storage.count() != 16384 {
@@ -61,8 +62,9 @@ pub fn draw_table<F: PageForm, S: Storage>(
     }
     // the table lies whole inside the storage, so that every entry has room
     let start = plan.table().start.number / 4;
+    // over the numbers of the pages, from which the words of an entry are made
     for page in 0..page_count::<F>() as u8 {
-        let _ = draw(storage, table_block::<F>(start, page));
+        let _ = draw(storage, &table_block::<F>(start, page));
     }
     Ok(())
 }

@@ -1,10 +1,10 @@
 use crate::support::{
-    anchor_word, answers, comes_to, link_word, plan_of, put_anchor, put_entry,
+    anchor_word, answers, bytes_of, comes_to, link_word, plan_of, put_anchor, put_entry,
     turn_reserved_bits_on, virtual_page, word_number,
 };
 use boards::ram::RamBoard;
-use next_page_table::entry::Tag;
-use next_page_table::walk::{Found, SearchFault};
+use page_table::entry::Tag;
+use page_table::walk::{Fault, Found};
 use paging::form::{Form2K, Form4K, PageForm};
 use paging::plan::SettledPlan;
 use std::alloc::{AllocError, Global};
@@ -119,7 +119,7 @@ pub(crate) fn asked(case: Case) -> Tag {
 // Checks what came of a walk of the list.
 pub(crate) fn comes_as_listed(
     rt: &impl Abort,
-    outcome: Result<Found, SearchFault>,
+    outcome: Result<Found, Fault>,
     case: Case,
     long_stop: bool,
     setting: &str,
@@ -198,7 +198,7 @@ fn at_base<F: PageForm + Copy>(
     start: u32,
 ) -> Result<(), Fail> {
     let plan = plan_of(form, exponent, base)?;
-    let mut bytes = vec![in heap; 0u8; plan.storage_bytes() as usize]?;
+    let mut bytes = bytes_of(heap, &plan)?;
     let mut board = RamBoard::new(&mut bytes);
     put_table::<F, RamBoard>(rt, &mut board, start)?;
     walks(rt, heap, &board, &plan, "reserved bits are off")?;

@@ -1,6 +1,6 @@
 use crate::support::virtual_page;
-use next_page_table::decode::{anchor_of, entry_of, link_of, tag_of};
-use next_page_table::entry::{Anchor, Link, PageEntry};
+use page_table::decode::{anchor_of, entry_of, link_of, tag_of};
+use page_table::entry::{Anchor, Link, PageEntry};
 use paging::form::{Form2K, Form4K, PageForm};
 use std::process::Abort;
 

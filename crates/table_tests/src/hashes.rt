@@ -2,7 +2,7 @@ use crate::support::{
     anchor_word, comes_to, link_word, plan_of, put_anchor, put_entry, virtual_page,
 };
 use boards::ram::RamBoard;
-use next_page_table::finding::find_page;
+use page_table::finding::find_page;
 use paging::form::{Form2K, Form4K, PageForm};
 use paging::plan::SettledPlan;
 use std::process::Abort;

@@ -1,9 +1,9 @@
 use crate::support::{
-    anchor_word, answers, down_to, link_word, plan_of, put_anchor, put_entry,
+    anchor_word, answers, bytes_of, down_to, link_word, plan_of, put_anchor, put_entry,
     turn_reserved_bits_on, virtual_page,
 };
 use boards::ram::RamBoard;
-use next_page_table::entry::Tag;
+use page_table::entry::Tag;
 use paging::form::{Form2K, Form4K, PageForm};
 use paging::plan::SettledPlan;
 use std::alloc::Global;
@@ -43,7 +43,7 @@ fn whole_table<F: PageForm + Copy>(
     pages: u16,
 ) -> Result<(), Fail> {
     let plan = plan_of(form, exponent, 0)?;
-    let mut bytes = vec![in heap; 0u8; plan.storage_bytes() as usize]?;
+    let mut bytes = bytes_of(heap, &plan)?;
     let mut board = RamBoard::new(&mut bytes);
     put_chain::<F, RamBoard>(rt, &mut board, pages)?;
     let path = down_to(heap, pages, 0)?;
@@ -102,7 +102,7 @@ fn long_chains<F: PageForm + Copy>(
     exponent: u32,
 ) -> Result<(), Fail> {
     let plan = plan_of(form, exponent, 0)?;
-    let mut bytes = vec![in heap; 0u8; plan.storage_bytes() as usize]?;
+    let mut bytes = bytes_of(heap, &plan)?;
     let mut board = RamBoard::new(&mut bytes);
     for (anew, (last, next), entry, (number_on, lowest_on), (number_off, lowest_off)) in LONG {
         put_chain::<F, RamBoard>(rt, &mut board, 128)?;

@@ -1,9 +1,9 @@
 use crate::chains::{CASES, ROUNDS, asked, comes_as_listed, put_table, round};
-use crate::support::{comes_to, down_to, plan_of, virtual_page};
+use crate::support::{bytes_of, comes_to, down_to, plan_of, virtual_page};
 use boards::ram::RamBoard;
 use boards::stacked::Stacked;
 use dump_board::board::DumpBoard;
-use next_page_table::pairs::{find_both_pages, find_in_both};
+use page_table::pairs::{find_both_pages, find_in_both};
 use paging::form::{Form2K, Form4K, PageForm};
 use paging::plan::SettledPlan;
 use std::alloc::Global;
@@ -20,7 +20,7 @@ fn any_two<F: PageForm + Copy>(
     exponent: u32,
 ) -> Result<(), Fail> {
     let plan = plan_of(form, exponent, 0)?;
-    let mut bytes = vec![in heap; 0u8; plan.storage_bytes() as usize]?;
+    let mut bytes = bytes_of(heap, &plan)?;
     let mut board = RamBoard::new(&mut bytes);
     put_table::<F, RamBoard>(rt, &mut board, 0)?;
     for one in CASES {
@@ -91,7 +91,7 @@ fn stacked<F: PageForm + Copy>(
     above: usize,
 ) -> Result<(), Fail> {
     let plan = plan_of(form, exponent, 0)?;
-    let mut bytes = vec![in heap; 0u8; plan.storage_bytes() as usize]?;
+    let mut bytes = bytes_of(heap, &plan)?;
     let mut low = vec![in heap; 0u8; 260]?;
     let mut high = vec![in heap; 0u8; above]?;
     let mut pair = Stacked::new(RamBoard::new(&mut low), RamBoard::new(&mut high));
@@ -114,8 +114,8 @@ fn dumped<F: PageForm + Copy>(
     blocks: u16,
 ) -> Result<(), Fail> {
     let plan = plan_of(form, exponent, 0)?;
-    let mut bytes = vec![in heap; 0u8; plan.storage_bytes() as usize]?;
-    let mut dump = vec![in heap; 0u8; plan.storage_bytes() as usize]?;
+    let mut bytes = bytes_of(heap, &plan)?;
+    let mut dump = bytes_of(heap, &plan)?;
     let mut board = DumpBoard::new(&mut dump);
     board.fill(&down_to(heap, blocks, 0)?)?;
     in_two(rt, heap, &mut RamBoard::new(&mut bytes), &mut board, &plan)

@@ -1,7 +1,7 @@
-use next_page_table::entry::{PageEntry, Tag};
-use next_page_table::finding::find_page;
-use next_page_table::trace::trace_page;
-use next_page_table::walk::{Found, SearchFault};
+use page_table::entry::{PageEntry, Tag};
+use page_table::finding::find_page;
+use page_table::trace::trace_page;
+use page_table::walk::{Fault, Found};
 use paging::draft::Draft;
 use paging::form::PageForm;
 use paging::plan::SettledPlan;
@@ -21,10 +21,17 @@ pub(crate) fn plan_of<F: PageForm + Copy>(
         exponent,
         base,
     };
-    match draft.settle() {
-        Ok(plan) => Ok(plan),
-        Err(refused) => Err(Fail::from(refused.refusal)),
-    }
+    draft
+        .settle()
+        .map_err(|refused| Fail::from(refused.refusal))
+}
+
+// The bytes of a storage that fits a plan, all of them 0.
+pub(crate) fn bytes_of<F: PageForm>(
+    heap: Global,
+    plan: &SettledPlan<F>,
+) -> Result<Vec<u8>, AllocError> {
+    vec![in heap; 0u8; plan.storage_bytes() as usize]
 }
 
 pub(crate) fn virtual_page(segment: u16, page: u32) -> Tag {
@@ -137,7 +144,7 @@ pub(crate) fn turn_reserved_bits_on<F: PageForm, S: Storage>(
 // the setting and what the walk asked for.
 pub(crate) fn comes_to(
     rt: &impl Abort,
-    outcome: Result<Found, SearchFault>,
+    outcome: Result<Found, Fault>,
     tag: Tag,
     long_stop: bool,
     number: u8,

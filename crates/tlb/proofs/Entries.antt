@@ -2,9 +2,9 @@
 use Rattle.std.proofs.Common.{◌≡◌, ℕ, zero, suc, Bool, true, false, cond, ◌⊎◌, List, length, get_or, set, replicate, Some, None, Option, sym, refl, ap, ◌∙◌, subst, inl, inr, ⊎_elim, arith}
 use Rattle.std.proofs.lemmas.Bool.{cond_both, cases_eq, cases_lt, cases_Bool, both_ways}
 use Rattle.std.proofs.lemmas.List.{get_or-set_same, get_or-set_other, set_past, get_or-replicate, get_or_past}
-use Rattle.next_page_table.specs.declared.entry.Tag.{Tag}
-use Rattle.next_page_table.specs.Search.{same_tag}
-use Rattle.next_page_table.proofs.Tags.{same_tag_lem, tag_same}
+use Rattle.page_table.specs.declared.entry.Tag.{Tag}
+use Rattle.page_table.specs.Search.{same_tag}
+use Rattle.page_table.proofs.Tags.{same_tag_lem, tag_same}
 use Rattle.tlb.specs.declared.buffers.Translation.{Translation}
 use Rattle.tlb.specs.declared.buffers.Way.{Way}
 use Rattle.tlb.specs.declared.buffers.Way.TheVariants.{First, Second}
@@ -210,11 +210,3 @@ miss_looked b tag miss =
     (λ e. subst P (sym e) (ap hit (after_hit_ways c tag) ∙ miss))
     (λ e. subst P (sym e) miss)
     (set_or b.classes (class_of tag) (class_of tag) (after_hit c tag) no_class)
-
-pub unique_empty : EachUnique empty_buffers
-unique_empty i =
-    let P : Class → Type 0 = λ c. Unique c in
-    ⊎_elim
-    (λ inside. subst P (sym (get_or-replicate 16 i empty_class no_class inside)) refl)
-    (λ past. subst P (sym (get_or_past (replicate 16 empty_class) i no_class past)) refl)
-    (cases_lt i 16)

@@ -1,7 +1,7 @@
 -- The look-aside buffers.
 use Rattle.std.specs.Prelude.{◌≡◌, ℕ, ◌%◌, ◌<◌, Bool, false, cond, [], ◌∷◌, replicate, Some, None, Option, slice_index_or, slice_set}
-use Rattle.next_page_table.specs.declared.entry.Tag.{Tag}
-use Rattle.next_page_table.specs.Search.{same_tag}
+use Rattle.page_table.specs.declared.entry.Tag.{Tag}
+use Rattle.page_table.specs.Search.{same_tag}
 use Rattle.tlb.specs.declared.buffers.Translation.{Translation}
 use Rattle.tlb.specs.declared.buffers.Way.{Way}
 use Rattle.tlb.specs.declared.buffers.Way.TheVariants.{First, Second}

@@ -1,4 +1,4 @@
-use next_page_table::entry::PageEntry;
+use page_table::entry::PageEntry;
 
 // A copy of a page table entry that a walk found: the number of its real page, and what it says of it.
 #[derive(Clone, Copy, PartialEq, Eq, Debug)]
@@ -14,7 +14,7 @@ pub enum Way {
     Second,
 }
 
-// A congruence class: two entries, each of them valid or not, and which one was used last.
+// A congruence class: two entries, each of them valid or not, and which one was used last. Two by design, so an array.
 #[derive(Clone, Copy)]
 pub struct Class {
     pub ways: [Option<Translation>; 2],

@@ -2,8 +2,8 @@ ghost use Rattle.std.specs.Prelude.{◌≡◌};
 ghost use Rattle.tlb.specs.Lookup.{holds as holding, hit_in, after_hit, replaced_in, hit_of, looked_up, loaded_with, empty_buffers};
 
 use crate::buffers::{Buffers, Class, Translation, Way};
-use next_page_table::entry::Tag;
-use next_page_table::finding::same_tag;
+use page_table::entry::Tag;
+use page_table::finding::same_tag;
 
 // Whether an entry is valid and holds a virtual page.
 fn holds(entry: Option<Translation>, tag: Tag) -> bool

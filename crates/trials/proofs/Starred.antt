@@ -1,7 +1,7 @@
 -- The checker computes the starred trials.
 use Rattle.std.proofs.Common.{refl}
 use Rattle.storage.specs.Words.{tabulated}
-use Rattle.next_page_table.specs.Search.{chain}
+use Rattle.page_table.specs.Search.{chain}
 use Rattle.unit_state.specs.State.{powered_on}
 use Rattle.unit_state.specs.Marks.{used_page}
 use Rattle.unit_state.specs.Translation.{located, buffers_after, translated, translated_state}

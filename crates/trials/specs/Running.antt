@@ -2,6 +2,7 @@
 use Rattle.std.specs.Prelude.{ℕ, ◌+◌, ◌-◌, ◌*◌, ◌/◌, ◌^◌, cond, List, slice_set}
 use Rattle.paging.specs.declared.geometry.PageGeometry.{PageGeometry}
 use Rattle.paging.specs.declared.address.EffectiveAddress.{EffectiveAddress}
+use Rattle.paging.specs.Numbers.{PlanNumbers}
 use Rattle.paging.specs.Plan.{page_count}
 use Rattle.protection.specs.declared.access_type.AccessType.{AccessType}
 use Rattle.protection.specs.declared.access_type.AccessType.TheVariants.{Load, Store}
@@ -21,6 +22,10 @@ use Rattle.trials.specs.Image.{bench_words}
 abbrev pub bench_base : PageGeometry → ℕ
 bench_base f = 64 / page_count f 16
 
+-- the numbers of the bench image's plan
+abbrev pub bench_plan : PageGeometry → PlanNumbers
+bench_plan f = record { form = f; exponent = 16; base = bench_base f }
+
 abbrev pub spot_of : PageGeometry → Spot → ℕ
 spot_of f First = 0
 spot_of f Fifth = 4
@@ -37,16 +42,16 @@ start_of t = with_long_search (with_segments powered_on (slice_set powered_on.se
 
 -- what a request answers, and what it leaves; stores are of 0
 abbrev pub answer_by : PageGeometry → BenchRequest → AccessType → List ℕ → UnitState → Answer
-answer_by f r Load ws s = load_answer f 16 (bench_base f) ws s r.width (address_of f r)
-answer_by f r Store ws s = store_answer f 16 (bench_base f) ws s r.width (address_of f r) 0
+answer_by f r Load ws s = load_answer (bench_plan f) ws s r.width (address_of f r)
+answer_by f r Store ws s = store_answer (bench_plan f) ws s r.width (address_of f r) 0
 
 abbrev pub state_by : PageGeometry → BenchRequest → AccessType → List ℕ → UnitState → UnitState
-state_by f r Load ws s = after_load f 16 (bench_base f) ws s r.width (address_of f r)
-state_by f r Store ws s = after_store f 16 (bench_base f) ws s r.width (address_of f r) 0
+state_by f r Load ws s = after_load (bench_plan f) ws s r.width (address_of f r)
+state_by f r Store ws s = after_store (bench_plan f) ws s r.width (address_of f r) 0
 
 abbrev pub words_by : PageGeometry → BenchRequest → AccessType → List ℕ → UnitState → List ℕ
 words_by f r Load ws s = ws
-words_by f r Store ws s = store_words f 16 (bench_base f) ws s r.width (address_of f r) 0
+words_by f r Store ws s = store_words (bench_plan f) ws s r.width (address_of f r) 0
 
 abbrev pub outcome_by : PageGeometry → BenchRequest → List ℕ → UnitState → TrialOutcome
 outcome_by f r ws s =

@@ -12,7 +12,7 @@ pub enum Target {
 }
 
 // Entry 9 of the bench image: the key of its page, the page number in its tag, whether it is the last of its chain (else it
-// points to itself), its write bit, transaction ID and lock bits.
+// points to itself), its write bit, transaction ID and lock bits: each stands in the image, whatever the others are.
 #[derive(Clone, Copy)]
 pub struct BenchEntry {
     pub key: u8,
@@ -42,6 +42,7 @@ pub struct BenchRequest {
 }
 
 // A trial: what register 1 holds, the long-stop bit, the bench image, and a request, which may be made twice.
+// The flags go with any of the rest.
 #[derive(Clone, Copy)]
 pub struct Trial {
     pub register: SegmentRegister,

@@ -35,10 +35,7 @@ fn target_of<F: PageForm>(target: Target) -> u32
 fn is_four(target: Target) -> bool
     ensures { result ≡ is_four target }
 {
-    match target {
-        Target::Four => true,
-        Target::Nine | Target::Outside => false,
-    }
+    matches!(target, Target::Four)
 }
 
 fn tag_word<F: PageForm>(page: u8) -> u32

@@ -1,9 +1,10 @@
 ghost use Rattle.std.specs.Prelude.{◌≡◌, ◌<◌, ◌≤◌, true, length, is_ok, IfOk};
-ghost use Rattle.trials.specs.Running.{bench_base, spot_of, address_of, answer_by, state_by, words_by, outcome_by, outcome_in, outcome_of};
+ghost use Rattle.paging.specs.Numbers.{numbers_of};
+ghost use Rattle.trials.specs.Running.{bench_plan, spot_of, address_of, answer_by, state_by, words_by, outcome_by, outcome_in, outcome_of};
 
 use crate::bench::{BenchRequest, Spot, Trial, TrialOutcome};
 use crate::image::{BenchImage, page_count};
-use next_mmu::unit::MemoryUnit;
+use mmu::unit::MemoryUnit;
 use paging::address::EffectiveAddress;
 use paging::draft::Draft;
 use paging::form::PageForm;
@@ -41,8 +42,7 @@ fn ask<F: PageForm, S: Storage>(
     storage: &mut S,
     request: BenchRequest,
 ) -> Answer
-    requires exponent { unit.old.plan.exponent ≡ 16 }
-    requires base { F.PageForm.base unit.old.plan.base ≡ bench_base F.PageForm.sizes }
+    requires { numbers_of unit.old.plan ≡ bench_plan F.PageForm.sizes }
     ensures answer { result ≡ answer_by F.PageForm.sizes request request.access (S.ReadStorage.words storage.old) unit.old.state }
     ensures state { unit.new.state ≡ state_by F.PageForm.sizes request request.access (S.ReadStorage.words storage.old) unit.old.state }
     ensures plan { unit.new.plan ≡ unit.old.plan }
@@ -50,6 +50,7 @@ fn ask<F: PageForm, S: Storage>(
     ensures lenders { S.Storage.lenders storage.new ≡ S.Storage.lenders storage.old }
 {
     let address = address_of::<F>(request);
+    // a trial is a row of a table, so what it asks is data and no closure
     match request.access {
         AccessType::Load => unit.load(storage, address, request.width),
         AccessType::Store => unit.store(storage, address, request.width, 0),
@@ -62,8 +63,7 @@ fn ask_all<F: PageForm, S: Storage>(
     storage: &mut S,
     trial: &Trial,
 ) -> TrialOutcome
-    requires exponent { unit.old.plan.exponent ≡ 16 }
-    requires base { F.PageForm.base unit.old.plan.base ≡ bench_base F.PageForm.sizes }
+    requires { numbers_of unit.old.plan ≡ bench_plan F.PageForm.sizes }
     ensures outcome { result ≡ outcome_in F.PageForm.sizes trial.now (S.ReadStorage.words storage.old) unit.old.state }
     ensures lenders { S.Storage.lenders storage.new ≡ S.Storage.lenders storage.old }
 {
@@ -102,10 +102,7 @@ pub fn run_trial<F: PageForm + Copy, S: Storage>(
         exponent: 16,
         base: 64 / page_count::<F>(),
     };
-    let plan = match draft.settle() {
-        Ok(plan) => plan,
-        Err(refused) => return Err(refused.refusal),
-    };
+    let plan = draft.settle().map_err(|refused| refused.refusal)?;
     let mut unit = MemoryUnit::power_on(plan);
     unit.write_segment(1, trial.register)?;
     unit.write_long_stop(trial.long_stop);

@@ -1,17 +1,17 @@
 -- Requests leave look-aside buffers that agree with the tables.
 use Rattle.std.proofs.Common.{◌≡◌, ℕ, ◌<◌, Bool, List, Some, None, Ok, Err, Option, Result, sym, refl, ap, ◌∙◌, subst}
 use Rattle.refusals.specs.declared.refusal.Refusal.{Refusal}
-use Rattle.paging.specs.declared.geometry.PageGeometry.{PageGeometry}
+use Rattle.paging.specs.Numbers.{PlanNumbers}
 use Rattle.paging.specs.declared.address.EffectiveAddress.{EffectiveAddress}
 use Rattle.paging.specs.Plan.{page_count}
-use Rattle.next_page_table.specs.declared.entry.Tag.{Tag}
-use Rattle.next_page_table.specs.declared.walk.Found.{Found}
-use Rattle.next_page_table.specs.Search.{Outcome, query_of}
-use Rattle.next_page_table.specs.Laws.{Well, AlikeTables}
-use Rattle.next_page_table.proofs.Walks.{searched_well}
-use Rattle.next_page_table.proofs.Alike.{searched_alike}
+use Rattle.page_table.specs.declared.entry.Tag.{Tag}
+use Rattle.page_table.specs.declared.walk.Found.{Found}
+use Rattle.page_table.specs.Search.{Outcome, query_of}
+use Rattle.page_table.specs.Laws.{Well, AlikeTables}
+use Rattle.page_table.proofs.Walks.{searched_well}
+use Rattle.page_table.proofs.Alike.{searched_alike}
 use Rattle.protection.specs.declared.access_type.AccessType.{AccessType}
-use Rattle.unit_state.specs.declared.answer.Fault.{Fault}
+use Rattle.page_table.specs.declared.walk.Fault.{Fault}
 use Rattle.unit_state.specs.declared.state.UnitState.{UnitState}
 use Rattle.unit_state.specs.declared.translation.Place.{Place}
 use Rattle.unit_state.specs.Answers.{Answer, unless}
@@ -24,84 +24,84 @@ use Rattle.unit_state.proofs.Locating.{buffers_hold}
 
 -- what a search finds is named by the tables
 found_named :
-    (f : PageGeometry) (k b : ℕ) (ws : List ℕ) (s : UnitState) (tag : Tag) (x : Found) →
-    found_for f k b ws s tag ≡ Ok x →
-    Named f k b ws s (kept_of x)
-found_named f k b ws s tag x e =
-    let q = query_of f k b s.long_stop tag in
-    let P : Outcome → Type 0 = λ r. Well f ws q r in
-    let tagged = (subst P e (searched_well f ws q)).tagged in
-    record { found = x; is = ap (found_for f k b ws s) tagged ∙ e; kept = refl }
+    (plan : PlanNumbers) (ws : List ℕ) (s : UnitState) (tag : Tag) (x : Found) →
+    found_for plan ws s tag ≡ Ok x →
+    Named plan ws s (kept_of x)
+found_named plan ws s tag x e =
+    let q = query_of plan s.long_stop tag in
+    let P : Outcome → Type 0 = λ r. Well plan.form ws q r in
+    let tagged = (subst P e (searched_well plan.form ws q)).tagged in
+    record { found = x; is = ap (found_for plan ws s) tagged ∙ e; kept = refl }
 
 agrees_translated :
-    (f : PageGeometry) (k b : ℕ) (ws : List ℕ) (s : UnitState) (address : ℕ) →
-    Agrees f k b ws s →
-    Agrees f k b ws (translated_state f k b ws s address)
+    (plan : PlanNumbers) (ws : List ℕ) (s : UnitState) (address : ℕ) →
+    Agrees plan ws s →
+    Agrees plan ws (translated_state plan ws s address)
 unfolding translated_state
-agrees_translated f k b ws s address agrees = ways (entry_refusal k ws (segment_at s address))
+agrees_translated plan ws s address agrees = ways (entry_refusal plan.exponent ws (segment_at s address))
   where
     tag : Tag
-    tag = tag_at f (segment_at s address) address
+    tag = tag_at plan.form (segment_at s address) address
 
-    ways : (o : Option Refusal) → Agrees f k b ws (unless o s (with_buffers s (buffers_after f k b ws s tag)))
+    ways : (o : Option Refusal) → Agrees plan ws (unless o s (with_buffers s (buffers_after plan ws s tag)))
     ways (Some e) = agrees
     ways None = λ i j t is.
-        let named = buffers_hold (Named f k b ws s) f k b ws s tag agrees (found_named f k b ws s tag) i j t is in
+        let named = buffers_hold (Named plan ws s) plan ws s tag agrees (found_named plan ws s tag) i j t is in
         record { found = named.found; is = named.is; kept = named.kept }
 
 agrees_used :
-    (f : PageGeometry) (k b : ℕ) (ws : List ℕ) (s : UnitState) (r : Result Place Fault) (answer : Answer) (store : Bool) →
-    Agrees f k b ws s →
-    Agrees f k b ws (used_at s r answer store)
+    (plan : PlanNumbers) (ws : List ℕ) (s : UnitState) (r : Result Place Fault) (answer : Answer) (store : Bool) →
+    Agrees plan ws s →
+    Agrees plan ws (used_at s r answer store)
 unfolding used_page
-agrees_used f k b ws s (Ok p) (Ok a) store agrees = λ i j t is.
+agrees_used plan ws s (Ok p) (Ok a) store agrees = λ i j t is.
     let named = agrees i j t is in record { found = named.found; is = named.is; kept = named.kept }
-agrees_used f k b ws s (Ok p) (Err e) store agrees = agrees
-agrees_used f k b ws s (Err x) (Ok a) store agrees = agrees
-agrees_used f k b ws s (Err x) (Err e) store agrees = agrees
+agrees_used plan ws s (Ok p) (Err e) store agrees = agrees
+agrees_used plan ws s (Err x) (Ok a) store agrees = agrees
+agrees_used plan ws s (Err x) (Err e) store agrees = agrees
 
 agrees_noted :
-    (f : PageGeometry) (k b : ℕ) (ws : List ℕ) (s : UnitState) (answer : Answer) (address : EffectiveAddress) (t : AccessType) →
-    Agrees f k b ws s →
-    Agrees f k b ws (noted_in s answer address t)
-agrees_noted f k b ws s (Ok a) address t agrees = agrees
-agrees_noted f k b ws s (Err e) address t agrees = λ i j x is.
+    (plan : PlanNumbers) (ws : List ℕ) (s : UnitState) (answer : Answer) (address : EffectiveAddress) (t : AccessType) →
+    Agrees plan ws s →
+    Agrees plan ws (noted_in s answer address t)
+agrees_noted plan ws s (Ok a) address t agrees = agrees
+agrees_noted plan ws s (Err e) address t agrees = λ i j x is.
     let named = agrees i j x is in record { found = named.found; is = named.is; kept = named.kept }
 
 pub agrees_after :
-    (f : PageGeometry) (k b : ℕ) (ws : List ℕ) (s : UnitState) (address : EffectiveAddress) (r : Result Place Fault) (answer : Answer) (store : Bool) (t : AccessType) →
-    Agrees f k b ws s →
-    Agrees f k b ws (noted_in (used_at (translated_state f k b ws s address.number) r answer store) answer address t)
-agrees_after f k b ws s address r answer store t agrees =
-    agrees_noted f k b ws (used_at (translated_state f k b ws s address.number) r answer store) answer address t
-    (agrees_used f k b ws (translated_state f k b ws s address.number) r answer store (agrees_translated f k b ws s address.number agrees))
+    (plan : PlanNumbers) (ws : List ℕ) (s : UnitState) (address : EffectiveAddress) (r : Result Place Fault) (answer : Answer) (store : Bool) (t : AccessType) →
+    Agrees plan ws s →
+    Agrees plan ws (noted_in (used_at (translated_state plan ws s address.number) r answer store) answer address t)
+agrees_after plan ws s address r answer store t agrees =
+    agrees_noted plan ws (used_at (translated_state plan ws s address.number) r answer store) answer address t
+    (agrees_used plan ws (translated_state plan ws s address.number) r answer store (agrees_translated plan ws s address.number agrees))
 
 -- buffers that agree with a table agree with every table that is alike
 pub agrees_alike :
-    (f : PageGeometry) (k b : ℕ) (ws vs : List ℕ) (s : UnitState) →
-    0 < page_count f k →
-    ((tag : Tag) → AlikeTables (query_of f k b s.long_stop tag) ws vs) →
-    Agrees f k b ws s →
-    Agrees f k b vs s
-agrees_alike f k b ws vs s some alike agrees = λ i j t is.
+    (plan : PlanNumbers) (ws vs : List ℕ) (s : UnitState) →
+    0 < page_count plan.form plan.exponent →
+    ((tag : Tag) → AlikeTables (query_of plan s.long_stop tag) ws vs) →
+    Agrees plan ws s →
+    Agrees plan vs s
+agrees_alike plan ws vs s some alike agrees = λ i j t is.
     let named = agrees i j t is in
-    let q = query_of f k b s.long_stop t.page.tag in
+    let q = query_of plan s.long_stop t.page.tag in
     record {
       found = named.found;
-      is = sym (searched_alike f ws vs q some (alike t.page.tag)) ∙ named.is;
+      is = sym (searched_alike plan.form ws vs q some (alike t.page.tag)) ∙ named.is;
       kept = named.kept;
     }
 
 -- a request leaves the long-stop bit
 long_translated :
-    (f : PageGeometry) (k b : ℕ) (ws : List ℕ) (s : UnitState) (address : ℕ) →
-    (translated_state f k b ws s address).long_stop ≡ s.long_stop
+    (plan : PlanNumbers) (ws : List ℕ) (s : UnitState) (address : ℕ) →
+    (translated_state plan ws s address).long_stop ≡ s.long_stop
 unfolding translated_state
-long_translated f k b ws s address = ways (entry_refusal k ws (segment_at s address))
+long_translated plan ws s address = ways (entry_refusal plan.exponent ws (segment_at s address))
   where
     ways :
         (o : Option Refusal) →
-        (unless o s (with_buffers s (buffers_after f k b ws s (tag_at f (segment_at s address) address)))).long_stop ≡ s.long_stop
+        (unless o s (with_buffers s (buffers_after plan ws s (tag_at plan.form (segment_at s address) address)))).long_stop ≡ s.long_stop
     ways (Some e) = refl
     ways None = refl
 
@@ -121,9 +121,9 @@ long_noted s (Ok a) address t = refl
 long_noted s (Err e) address t = refl
 
 pub long_after :
-    (f : PageGeometry) (k b : ℕ) (ws : List ℕ) (s : UnitState) (address : EffectiveAddress) (r : Result Place Fault) (answer : Answer) (store : Bool) (t : AccessType) →
-    (noted_in (used_at (translated_state f k b ws s address.number) r answer store) answer address t).long_stop ≡ s.long_stop
-long_after f k b ws s address r answer store t =
-    long_noted (used_at (translated_state f k b ws s address.number) r answer store) answer address t
-    ∙ long_used (translated_state f k b ws s address.number) r answer store
-    ∙ long_translated f k b ws s address.number
+    (plan : PlanNumbers) (ws : List ℕ) (s : UnitState) (address : EffectiveAddress) (r : Result Place Fault) (answer : Answer) (store : Bool) (t : AccessType) →
+    (noted_in (used_at (translated_state plan ws s address.number) r answer store) answer address t).long_stop ≡ s.long_stop
+long_after plan ws s address r answer store t =
+    long_noted (used_at (translated_state plan ws s address.number) r answer store) answer address t
+    ∙ long_used (translated_state plan ws s address.number) r answer store
+    ∙ long_translated plan ws s address.number

@@ -1,14 +1,14 @@
 -- What a translation that leads to a place says.
 use Rattle.std.proofs.Common.{◌≡◌, ℕ, ◌<◌, ◌≤◌, Bool, true, false, cond, List, Some, None, Ok, Err, Option, Result, sym, refl, subst, arith}
 use Rattle.refusals.specs.declared.refusal.Refusal.{Refusal}
-use Rattle.paging.specs.declared.geometry.PageGeometry.{PageGeometry}
+use Rattle.paging.specs.Numbers.{PlanNumbers}
 use Rattle.paging.specs.Address.{offset_of}
 use Rattle.paging.specs.Plan.{page_count}
 use Rattle.protection.specs.declared.register.SegmentRegister.{SegmentRegister}
 use Rattle.protection.specs.declared.access_type.AccessType.{AccessType}
 use Rattle.protection.specs.Permission.{permitted}
 use Rattle.tlb.specs.Lookup.{EachNear}
-use Rattle.unit_state.specs.declared.answer.Fault.{Fault}
+use Rattle.page_table.specs.declared.walk.Fault.{Fault}
 use Rattle.unit_state.specs.declared.state.UnitState.{UnitState}
 use Rattle.unit_state.specs.declared.translation.Located.{Located}
 use Rattle.unit_state.specs.declared.translation.Place.{Place}
@@ -16,19 +16,19 @@ use Rattle.unit_state.specs.Translation.{segment_at, tag_at, entry_refusal, prot
 use Rattle.unit_state.proofs.Locating.{located_near}
 
 -- nothing refuses the request, the page was found, and protection permits it
-pub record Leads (f : PageGeometry) (k b : ℕ) (ws : List ℕ) (s : UnitState) (address : ℕ) (t : AccessType) (p : Place) : Type 0 where
-  pub entered : entry_refusal k ws (segment_at s address) ≡ None
+pub record Leads (plan : PlanNumbers) (ws : List ℕ) (s : UnitState) (address : ℕ) (t : AccessType) (p : Place) : Type 0 where
+  pub entered : entry_refusal plan.exponent ws (segment_at s address) ≡ None
   pub found : Located
-  pub is : located f k b ws s (tag_at f (segment_at s address) address) ≡ Ok found
-  pub permits : permitted f (segment_at s address) found.translation.page s.transaction (offset_of address) t ≡ true
-  pub place : p ≡ place_at f (offset_of address) found
+  pub is : located plan ws s (tag_at plan.form (segment_at s address) address) ≡ Ok found
+  pub permits : permitted plan.form (segment_at s address) found.translation.page s.transaction (offset_of address) t ≡ true
+  pub place : p ≡ place_at plan.form (offset_of address) found
 
 pub translated_leads :
-    (f : PageGeometry) (k b : ℕ) (ws : List ℕ) (s : UnitState) (address : ℕ) (t : AccessType) (p : Place) →
-    translated f k b ws s address t ≡ Ok p →
-    Leads f k b ws s address t p
+    (plan : PlanNumbers) (ws : List ℕ) (s : UnitState) (address : ℕ) (t : AccessType) (p : Place) →
+    translated plan ws s address t ≡ Ok p →
+    Leads plan ws s address t p
 unfolding translated
-translated_leads f k b ws s address t p e = enters (entry_refusal k ws r) refl e
+translated_leads plan ws s address t p e = enters (entry_refusal plan.exponent ws r) refl e
   where
     r : SegmentRegister
     r = segment_at s address
@@ -37,44 +37,44 @@ translated_leads f k b ws s address t p e = enters (entry_refusal k ws r) refl e
     offset = offset_of address
 
     found : Result Located Fault
-    found = located f k b ws s (tag_at f r address)
+    found = located plan ws s (tag_at plan.form r address)
 
     allows :
         (l : Located) (allowed : Bool) →
-        entry_refusal k ws r ≡ None →
+        entry_refusal plan.exponent ws r ≡ None →
         found ≡ Ok l →
-        permitted f r l.translation.page s.transaction offset t ≡ allowed →
-        cond {A = Result Place Fault} allowed (Ok (place_at f offset l)) (Err (record { refusal = protection_refusal r; compared = l.compared; last = l.last })) ≡ Ok p →
-        Leads f k b ws s address t p
+        permitted plan.form r l.translation.page s.transaction offset t ≡ allowed →
+        cond {A = Result Place Fault} allowed (Ok (place_at plan.form offset l)) (Err (record { refusal = protection_refusal r; compared = l.compared; last = l.last })) ≡ Ok p →
+        Leads plan ws s address t p
     allows l true entered is permits place =
-        let same : p ≡ place_at f offset l = cc in
+        let same : p ≡ place_at plan.form offset l = cc in
         record { entered = entered; found = l; is = is; permits = permits; place = same }
     allows l false entered is permits place = let z : ◌≡◌ {A = ℕ} 0 1 = cc in absurd (omega arith)
 
     finds :
         (x : Result Located Fault) →
-        entry_refusal k ws r ≡ None →
+        entry_refusal plan.exponent ws r ≡ None →
         found ≡ x →
-        judged f r s.transaction offset t x ≡ Ok p →
-        Leads f k b ws s address t p
-    finds (Ok l) entered is place = allows l (permitted f r l.translation.page s.transaction offset t) entered is refl place
+        judged plan.form r s.transaction offset t x ≡ Ok p →
+        Leads plan ws s address t p
+    finds (Ok l) entered is place = allows l (permitted plan.form r l.translation.page s.transaction offset t) entered is refl place
     finds (Err fault) entered is place = let z : ◌≡◌ {A = ℕ} 0 1 = cc in absurd (omega arith)
 
     enters :
         (o : Option Refusal) →
-        entry_refusal k ws r ≡ o →
-        refused_or o (judged f r s.transaction offset t found) ≡ Ok p →
-        Leads f k b ws s address t p
+        entry_refusal plan.exponent ws r ≡ o →
+        refused_or o (judged plan.form r s.transaction offset t found) ≡ Ok p →
+        Leads plan ws s address t p
     enters None entered place = finds found entered refl place
     enters (Some refusal) entered place = let z : ◌≡◌ {A = ℕ} 0 1 = cc in absurd (omega arith)
 
 pub translated_near :
-    (f : PageGeometry) (k b : ℕ) (ws : List ℕ) (s : UnitState) (address : ℕ) (t : AccessType) (p : Place) →
-    page_count f k ≤ 8192 →
+    (plan : PlanNumbers) (ws : List ℕ) (s : UnitState) (address : ℕ) (t : AccessType) (p : Place) →
+    page_count plan.form plan.exponent ≤ 8192 →
     EachNear s.buffers →
-    translated f k b ws s address t ≡ Ok p →
+    translated plan ws s address t ≡ Ok p →
     p.page < 8192
-translated_near f k b ws s address t p few near e =
-    let leads = translated_leads f k b ws s address t p e in
-    let low = located_near f k b ws s (tag_at f (segment_at s address) address) leads.found few near leads.is in
+translated_near plan ws s address t p few near e =
+    let leads = translated_leads plan ws s address t p e in
+    let low = located_near plan ws s (tag_at plan.form (segment_at s address) address) leads.found few near leads.is in
     subst (λ (x : Place). x.page < 8192) (sym leads.place) low

@@ -1,20 +1,20 @@
 -- What the look-aside buffers hold, and what is found, stays sound.
 use Rattle.std.proofs.Common.{◌≡◌, ℕ, ◌<◌, ◌≤◌, Bool, true, false, List, Some, None, Ok, Err, Option, Result, refl, ap, ◌∙◌, subst, arith}
 use Rattle.refusals.specs.declared.refusal.Refusal.{Refusal}
-use Rattle.paging.specs.declared.geometry.PageGeometry.{PageGeometry}
+use Rattle.paging.specs.Numbers.{PlanNumbers}
 use Rattle.paging.specs.Plan.{page_count}
-use Rattle.next_page_table.specs.declared.entry.Tag.{Tag}
-use Rattle.next_page_table.specs.declared.walk.Found.{Found}
-use Rattle.next_page_table.specs.Search.{Outcome, query_of, found_in}
-use Rattle.next_page_table.specs.Laws.{Well, FoundWell}
-use Rattle.next_page_table.proofs.Walks.{searched_well}
+use Rattle.page_table.specs.declared.entry.Tag.{Tag}
+use Rattle.page_table.specs.declared.walk.Found.{Found}
+use Rattle.page_table.specs.Search.{Outcome, query_of, found_in}
+use Rattle.page_table.specs.Laws.{Well, FoundWell}
+use Rattle.page_table.proofs.Walks.{searched_well}
 use Rattle.paging.specs.declared.address.EffectiveAddress.{EffectiveAddress}
 use Rattle.lanes.specs.declared.width.Width.{Width}
 use Rattle.protection.specs.declared.access_type.AccessType.{AccessType}
 use Rattle.tlb.specs.declared.buffers.Translation.{Translation}
 use Rattle.tlb.specs.Lookup.{hit_of, looked_up, EachUnique, Each, EachNear}
 use Rattle.tlb.proofs.Entries.{each_looked, each_loaded, hit_each, unique_looked, unique_loaded, miss_looked}
-use Rattle.unit_state.specs.declared.answer.Fault.{Fault}
+use Rattle.page_table.specs.declared.walk.Fault.{Fault}
 use Rattle.unit_state.specs.declared.state.UnitState.{UnitState}
 use Rattle.unit_state.specs.declared.translation.Located.{Located}
 use Rattle.unit_state.specs.Answers.{Answer, unless}
@@ -33,32 +33,33 @@ use Rattle.unit_state.specs.Translation.{
 }
 use Rattle.unit_state.specs.declared.translation.Place.{Place}
 use Rattle.unit_state.specs.Requests.{load_at, store_at, used_at, noted_in, load_place, used_by_load, store_place, used_by_store}
-use Rattle.unit_state.proofs.Soundness.{Sound, sound_used}
+use Rattle.unit_state.specs.Sound.{Sound}
+use Rattle.unit_state.proofs.Soundness.{sound_used}
 
 found_well :
-    (f : PageGeometry) (k b : ℕ) (ws : List ℕ) (s : UnitState) (tag : Tag) (x : Found) →
-    found_for f k b ws s tag ≡ Ok x →
-    FoundWell f ws (query_of f k b s.long_stop tag) x
-found_well f k b ws s tag x e =
-    let q = query_of f k b s.long_stop tag in
-    let P : Outcome → Type 0 = λ r. Well f ws q r in
-    subst P e (searched_well f ws q)
+    (plan : PlanNumbers) (ws : List ℕ) (s : UnitState) (tag : Tag) (x : Found) →
+    found_for plan ws s tag ≡ Ok x →
+    FoundWell plan.form ws (query_of plan s.long_stop tag) x
+found_well plan ws s tag x e =
+    let q = query_of plan s.long_stop tag in
+    let P : Outcome → Type 0 = λ r. Well plan.form ws q r in
+    subst P e (searched_well plan.form ws q)
 
 -- What holds of the entries of the buffers and of all that a search finds holds of what is found.
 pub located-holds :
-    (P : Translation → Type 0) (f : PageGeometry) (k b : ℕ) (ws : List ℕ) (s : UnitState) (tag : Tag) (l : Located) →
+    (P : Translation → Type 0) (plan : PlanNumbers) (ws : List ℕ) (s : UnitState) (tag : Tag) (l : Located) →
     Each P s.buffers →
-    ((x : Found) → found_for f k b ws s tag ≡ Ok x → P (kept_of x)) →
-    located f k b ws s tag ≡ Ok l →
+    ((x : Found) → found_for plan ws s tag ≡ Ok x → P (kept_of x)) →
+    located plan ws s tag ≡ Ok l →
     P l.translation
 unfolding located
-located-holds P f k b ws s tag l each found e = ways (hit_of s.buffers tag) refl (found_for f k b ws s tag) refl e
+located-holds P plan ws s tag l each found e = ways (hit_of s.buffers tag) refl (found_for plan ws s tag) refl e
   where
     ways :
         (h : Option Translation) →
         hit_of s.buffers tag ≡ h →
         (r : Outcome) →
-        found_for f k b ws s tag ≡ r →
+        found_for plan ws s tag ≡ r →
         located_by h r ≡ Ok l →
         P l.translation
     ways (Some t) hit r _ is =
@@ -68,32 +69,32 @@ located-holds P f k b ws s tag l each found e = ways (hit_of s.buffers tag) refl
 
 -- It holds of the buffers after that too.
 pub buffers_hold :
-    (P : Translation → Type 0) (f : PageGeometry) (k b : ℕ) (ws : List ℕ) (s : UnitState) (tag : Tag) →
+    (P : Translation → Type 0) (plan : PlanNumbers) (ws : List ℕ) (s : UnitState) (tag : Tag) →
     Each P s.buffers →
-    ((x : Found) → found_for f k b ws s tag ≡ Ok x → P (kept_of x)) →
-    Each P (buffers_after f k b ws s tag)
+    ((x : Found) → found_for plan ws s tag ≡ Ok x → P (kept_of x)) →
+    Each P (buffers_after plan ws s tag)
 unfolding buffers_after
-buffers_hold P f k b ws s tag each found =
-    ways (hit_of s.buffers tag) (found_for f k b ws s tag) refl
+buffers_hold P plan ws s tag each found =
+    ways (hit_of s.buffers tag) (found_for plan ws s tag) refl
   where
     looked : Each P (looked_up s.buffers tag)
     looked = each_looked P s.buffers tag each
 
     ways :
         (h : Option Translation) (r : Outcome) →
-        found_for f k b ws s tag ≡ r →
+        found_for plan ws s tag ≡ r →
         Each P (kept_by (looked_up s.buffers tag) h r)
     ways (Some t) r _ = looked
     ways None (Ok x) found_in = each_loaded P (looked_up s.buffers tag) (kept_of x) looked (found x found_in)
     ways None (Err e) _ = looked
 
 pub buffers_unique :
-    (f : PageGeometry) (k b : ℕ) (ws : List ℕ) (s : UnitState) (tag : Tag) →
+    (plan : PlanNumbers) (ws : List ℕ) (s : UnitState) (tag : Tag) →
     EachUnique s.buffers →
-    EachUnique (buffers_after f k b ws s tag)
+    EachUnique (buffers_after plan ws s tag)
 unfolding buffers_after
-buffers_unique f k b ws s tag unique =
-    ways (hit_of s.buffers tag) refl (found_for f k b ws s tag) refl
+buffers_unique plan ws s tag unique =
+    ways (hit_of s.buffers tag) refl (found_for plan ws s tag) refl
   where
     looked : EachUnique (looked_up s.buffers tag)
     looked = unique_looked s.buffers tag unique
@@ -102,55 +103,52 @@ buffers_unique f k b ws s tag unique =
         (h : Option Translation) →
         hit_of s.buffers tag ≡ h →
         (r : Outcome) →
-        found_for f k b ws s tag ≡ r →
+        found_for plan ws s tag ≡ r →
         EachUnique (kept_by (looked_up s.buffers tag) h r)
     ways (Some t) _ r _ = looked
     ways None miss (Ok x) found_in =
-        let tagged = (found_well f k b ws s tag x found_in).tagged in
+        let tagged = (found_well plan ws s tag x found_in).tagged in
         unique_loaded (looked_up s.buffers tag) (kept_of x) looked (ap (hit_of (looked_up s.buffers tag)) tagged ∙ miss_looked s.buffers tag miss)
     ways None _ (Err e) _ = looked
 
 -- every entry that a search finds is one of 8,192
 found_near :
-    (f : PageGeometry) (k b : ℕ) (ws : List ℕ) (s : UnitState) (tag : Tag) →
-    page_count f k ≤ 8192 →
+    (plan : PlanNumbers) (ws : List ℕ) (s : UnitState) (tag : Tag) →
+    page_count plan.form plan.exponent ≤ 8192 →
     (x : Found) →
-    found_for f k b ws s tag ≡ Ok x →
+    found_for plan ws s tag ≡ Ok x →
     (kept_of x).entry < 8192
-found_near f k b ws s tag few x e = let inside = (found_well f k b ws s tag x e).inside in omega arith
+found_near plan ws s tag few x e = let inside = (found_well plan ws s tag x e).inside in omega arith
 
 pub located_near :
-    (f : PageGeometry) (k b : ℕ) (ws : List ℕ) (s : UnitState) (tag : Tag) (l : Located) →
-    page_count f k ≤ 8192 →
+    (plan : PlanNumbers) (ws : List ℕ) (s : UnitState) (tag : Tag) (l : Located) →
+    page_count plan.form plan.exponent ≤ 8192 →
     EachNear s.buffers →
-    located f k b ws s tag ≡ Ok l →
+    located plan ws s tag ≡ Ok l →
     l.translation.entry < 8192
-located_near f k b ws s tag l few near e =
-    located-holds (λ t. t.entry < 8192) f k b ws s tag l near (found_near f k b ws s tag few) e
+located_near plan ws s tag l few near e =
+    located-holds (λ t. t.entry < 8192) plan ws s tag l near (found_near plan ws s tag few) e
 
 pub sound_translated :
-    (f : PageGeometry) (k b : ℕ) (ws : List ℕ) (s : UnitState) (address : ℕ) →
-    page_count f k ≤ 8192 →
+    (plan : PlanNumbers) (ws : List ℕ) (s : UnitState) (address : ℕ) →
+    page_count plan.form plan.exponent ≤ 8192 →
     Sound s →
-    Sound (translated_state f k b ws s address)
+    Sound (translated_state plan ws s address)
 unfolding translated_state
-sound_translated f k b ws s address few sound = ways (entry_refusal k ws (segment_at s address))
+sound_translated plan ws s address few sound = ways (entry_refusal plan.exponent ws (segment_at s address))
   where
     tag : Tag
-    tag = tag_at f (segment_at s address) address
+    tag = tag_at plan.form (segment_at s address) address
 
-    ways : (r : Option Refusal) → Sound (unless r s (with_buffers s (buffers_after f k b ws s tag)))
+    ways : (r : Option Refusal) → Sound (unless r s (with_buffers s (buffers_after plan ws s tag)))
     ways (Some r) = sound
-    ways None = (
-      sound.0,
-      (
-        sound.1.0,
-        (
-          buffers_unique f k b ws s tag sound.1.1.0,
-          (buffers_hold (λ t. t.entry < 8192) f k b ws s tag sound.1.1.1.0 (found_near f k b ws s tag few), tt),
-        ),
-      ),
-    )
+    ways None =
+        record {
+          whole = sound.whole;
+          narrow = sound.narrow;
+          unique = buffers_unique plan ws s tag sound.unique;
+          near = buffers_hold (λ t. t.entry < 8192) plan ws s tag sound.near (found_near plan ws s tag few);
+        }
 
 pub sound_used_at :
     (s : UnitState) (r : Result Place Fault) (answer : Answer) (store : Bool) → Sound s → Sound (used_at s r answer store)
@@ -164,31 +162,32 @@ pub sound_noted :
     Sound s →
     Sound (noted_in s answer address t)
 sound_noted s (Ok a) address t sound = sound
-sound_noted s (Err e) address t sound = sound
+sound_noted s (Err e) address t sound =
+    record { whole = sound.whole; narrow = sound.narrow; unique = sound.unique; near = sound.near }
 
 -- the unit after a request is sound
 pub sound_loaded :
-    (f : PageGeometry) (k b : ℕ) (ws : List ℕ) (s : UnitState) (w : Width) (address : EffectiveAddress) →
-    page_count f k ≤ 8192 →
+    (plan : PlanNumbers) (ws : List ℕ) (s : UnitState) (w : Width) (address : EffectiveAddress) →
+    page_count plan.form plan.exponent ≤ 8192 →
     Sound s →
-    Sound (used_by_load f k b ws s w address)
-sound_loaded f k b ws s w address few sound =
+    Sound (used_by_load plan ws s w address)
+sound_loaded plan ws s w address few sound =
     sound_used_at
-    (translated_state f k b ws s address.number)
-    (load_place f k b ws s address)
-    (load_at ws w (load_place f k b ws s address))
+    (translated_state plan ws s address.number)
+    (load_place plan ws s address)
+    (load_at ws w (load_place plan ws s address))
     false
-    (sound_translated f k b ws s address.number few sound)
+    (sound_translated plan ws s address.number few sound)
 
 pub sound_stored :
-    (f : PageGeometry) (k b : ℕ) (ws : List ℕ) (s : UnitState) (w : Width) (address : EffectiveAddress) (value : ℕ) →
-    page_count f k ≤ 8192 →
+    (plan : PlanNumbers) (ws : List ℕ) (s : UnitState) (w : Width) (address : EffectiveAddress) (value : ℕ) →
+    page_count plan.form plan.exponent ≤ 8192 →
     Sound s →
-    Sound (used_by_store f k b ws s w address value)
-sound_stored f k b ws s w address value few sound =
+    Sound (used_by_store plan ws s w address value)
+sound_stored plan ws s w address value few sound =
     sound_used_at
-    (translated_state f k b ws s address.number)
-    (store_place f k b ws s address)
-    (store_at ws w value (store_place f k b ws s address))
+    (translated_state plan ws s address.number)
+    (store_place plan ws s address)
+    (store_at ws w value (store_place plan ws s address))
     true
-    (sound_translated f k b ws s address.number few sound)
+    (sound_translated plan ws s address.number few sound)

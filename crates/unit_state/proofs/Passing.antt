@@ -5,19 +5,20 @@ use Rattle.std.proofs.lemmas.Nat.{mul-le, mod_below}
 use Rattle.refusals.specs.declared.refusal.Refusal.{Refusal}
 use Rattle.refusals.specs.declared.refusal.Refusal.TheVariants.{SizeDiffers, SegmentAbsent, SegmentBarred}
 use Rattle.paging.specs.declared.geometry.PageGeometry.{PageGeometry}
+use Rattle.paging.specs.Numbers.{PlanNumbers}
 use Rattle.paging.specs.Address.{offset_of, place_in_page}
 use Rattle.paging.specs.Plan.{storage_bytes, page_count}
 use Rattle.paging.proofs.Pages.{Wide, Whole, pages_whole, page_length}
-use Rattle.next_page_table.specs.Search.{Outcome, query_of}
-use Rattle.next_page_table.specs.Laws.{Well}
-use Rattle.next_page_table.proofs.Walks.{searched_well}
+use Rattle.page_table.specs.Search.{Outcome, query_of}
+use Rattle.page_table.specs.Laws.{Well}
+use Rattle.page_table.proofs.Walks.{searched_well}
 use Rattle.lanes.specs.declared.width.Width.{Width}
 use Rattle.lanes.specs.Lanes.{value_limit, loaded, store_of}
 use Rattle.protection.specs.declared.register.SegmentRegister.{SegmentRegister}
 use Rattle.protection.specs.declared.access_type.AccessType.{AccessType}
 use Rattle.protection.specs.Permission.{permitted}
 use Rattle.tlb.specs.declared.buffers.Translation.{Translation}
-use Rattle.unit_state.specs.declared.answer.Fault.{Fault}
+use Rattle.page_table.specs.declared.walk.Fault.{Fault}
 use Rattle.unit_state.specs.declared.state.UnitState.{UnitState}
 use Rattle.unit_state.specs.declared.translation.Place.{Place}
 use Rattle.unit_state.specs.Answers.{Answer}
@@ -66,25 +67,25 @@ entered_to k ws r entered =
 
 -- where the translation leads to a place, the rules let the request pass
 pub leads_passes :
-    (f : PageGeometry) (k b : ℕ) (ws : List ℕ) (s : UnitState) (address : ℕ) (t : AccessType) (p : Place) →
-    Agrees f k b ws s →
-    translated f k b ws s address t ≡ Ok p →
-    Passes f k b ws s address t
-leads_passes f k b ws s address t p agrees e = finds (found_for f k b ws s (tag_at f r address)) refl
+    (plan : PlanNumbers) (ws : List ℕ) (s : UnitState) (address : ℕ) (t : AccessType) (p : Place) →
+    Agrees plan ws s →
+    translated plan ws s address t ≡ Ok p →
+    Passes plan ws s address t
+leads_passes plan ws s address t p agrees e = finds (found_for plan ws s (tag_at plan.form r address)) refl
   where
     r : SegmentRegister
     r = segment_at s address
 
-    leads : Leads f k b ws s address t p
-    leads = translated_leads f k b ws s address t p e
+    leads : Leads plan ws s address t p
+    leads = translated_leads plan ws s address t p e
 
-    entered : Entered k ws r
-    entered = entered_from k ws r leads.entered
+    entered : Entered plan.exponent ws r
+    entered = entered_from plan.exponent ws r leads.entered
 
-    same : plain_named (found_for f k b ws s (tag_at f r address)) ≡ Ok leads.found.translation
-    same = sym (located-plain f k b ws s (tag_at f r address) agrees) ∙ ap plain_located leads.is
+    same : plain_named (found_for plan ws s (tag_at plan.form r address)) ≡ Ok leads.found.translation
+    same = sym (located-plain plan ws s (tag_at plan.form r address) agrees) ∙ ap plain_located leads.is
 
-    finds : (x : Outcome) → found_for f k b ws s (tag_at f r address) ≡ x → Passes f k b ws s address t
+    finds : (x : Outcome) → found_for plan ws s (tag_at plan.form r address) ≡ x → Passes plan ws s address t
     finds (Ok x) is =
         let kept : kept_of x ≡ leads.found.translation = let step = sym (ap plain_named is) ∙ same in cc in
         record {
@@ -93,23 +94,23 @@ leads_passes f k b ws s address t p agrees e = finds (found_for f k b ws s (tag_
           unbarred = entered.unbarred;
           found = x;
           named = is;
-          permits = ap (λ (y : Translation). permitted f r y.page s.transaction (offset_of address) t) kept ∙ leads.permits;
+          permits = ap (λ (y : Translation). permitted plan.form r y.page s.transaction (offset_of address) t) kept ∙ leads.permits;
         }
     finds (Err fault) is =
         let step = sym (ap plain_named is) ∙ same in let z : ◌≡◌ {A = ℕ} 0 1 = cc in absurd (omega arith)
 
 -- where the rules let it pass, the translation by the tables leads to the same place of the page that they name
 pub passes_leads :
-    (f : PageGeometry) (k b : ℕ) (ws : List ℕ) (s : UnitState) (address : ℕ) (t : AccessType) (pass : Passes f k b ws s address t) →
-    plain_translated f k b ws s address t
-    ≡ Ok (pass.found.entry * f.page + place_in_page f (offset_of address), pass.found.entry)
-passes_leads f k b ws s address t pass =
+    (plan : PlanNumbers) (ws : List ℕ) (s : UnitState) (address : ℕ) (t : AccessType) (pass : Passes plan ws s address t) →
+    plain_translated plan ws s address t
+    ≡ Ok (pass.found.entry * plan.form.page + place_in_page plan.form (offset_of address), pass.found.entry)
+passes_leads plan ws s address t pass =
     let r = segment_at s address in
-    let judge : Result Translation Refusal → Result Spot Refusal = plain_judged f r s.transaction (offset_of address) t in
-    let named = found_for f k b ws s (tag_at f r address) in
+    let judge : Result Translation Refusal → Result Spot Refusal = plain_judged plan.form r s.transaction (offset_of address) t in
+    let named = found_for plan ws s (tag_at plan.form r address) in
     ap
     (λ (o : Option Refusal). plain_refused_or o (judge (plain_named named)))
-    (entered_to k ws r (record { sized = pass.sized; present = pass.present; unbarred = pass.unbarred }))
+    (entered_to plan.exponent ws r (record { sized = pass.sized; present = pass.present; unbarred = pass.unbarred }))
     ∙ ap (λ (x : Outcome). judge (plain_named x)) pass.named
     ∙ cond-true _ _ _ pass.permits
 
@@ -120,21 +121,21 @@ pub place_inside :
     4 * length ws ≡ storage_bytes k →
     i < page_count f k →
     (i * f.page + place_in_page f offset) / 4 < length ws
-place_inside f k i offset ws plan sized inside =
-    let whole = pages_whole f k plan.wide plan.whole plan.large in
-    let some : 0 < f.page = ⊎_elim (λ p. omega arith) (λ p. omega arith) (page_length f plan.wide plan.whole) in
+place_inside f k i offset ws planned sized inside =
+    let whole = pages_whole f k planned.wide planned.whole planned.large in
+    let some : 0 < f.page = ⊎_elim (λ p. omega arith) (λ p. omega arith) (page_length f planned.wide planned.whole) in
     let low : place_in_page f offset < f.page = mod_below offset f.page some in
     let most = mul-le (i + 1) f.page (page_count f k) f.page (omega arith) (omega arith) in
     let step : (i + 1) * f.page ≡ i * f.page + f.page = add-mul i 1 f.page ∙ ap (λ (x : ℕ). i * f.page + x) (one-mul f.page) in
     omega (arith, mul_comm f.page (page_count f k), whole, sized)
 
 pub found_inside :
-    (f : PageGeometry) (k b : ℕ) (ws : List ℕ) (s : UnitState) (address : ℕ) (t : AccessType) (pass : Passes f k b ws s address t) →
-    pass.found.entry < page_count f k
-found_inside f k b ws s address t pass =
-    let q = query_of f k b s.long_stop (tag_at f (segment_at s address) address) in
-    let P : Outcome → Type 0 = λ r. Well f ws q r in
-    (subst P pass.named (searched_well f ws q)).inside
+    (plan : PlanNumbers) (ws : List ℕ) (s : UnitState) (address : ℕ) (t : AccessType) (pass : Passes plan ws s address t) →
+    pass.found.entry < page_count plan.form plan.exponent
+found_inside plan ws s address t pass =
+    let q = query_of plan s.long_stop (tag_at plan.form (segment_at s address) address) in
+    let P : Outcome → Type 0 = λ r. Well plan.form ws q r in
+    (subst P pass.named (searched_well plan.form ws q)).inside
 
 load_ok : (ws : List ℕ) (w : Width) (r : Result Place Fault) → is_ok (load_at ws w r) ≡ true → (p : Place) × (r ≡ Ok p)
 load_ok ws w (Ok p) e = (p, refl)
@@ -149,74 +150,74 @@ essence_ok (Ok a) v e = refl
 essence_ok (Err x) v e = let z : ◌≡◌ {A = ℕ} 0 1 = cc in absurd (omega arith)
 
 pub load_passes :
-    (f : PageGeometry) (k b : ℕ) (ws : List ℕ) (s : UnitState) (w : Width) (address : ℕ) (t : AccessType) →
-    Agrees f k b ws s →
-    is_ok (load_at ws w (translated f k b ws s address t)) ≡ true →
-    Passes f k b ws s address t
-load_passes f k b ws s w address t agrees e =
-    let at = load_ok ws w (translated f k b ws s address t) e in leads_passes f k b ws s address t at.0 agrees at.1
+    (plan : PlanNumbers) (ws : List ℕ) (s : UnitState) (w : Width) (address : ℕ) (t : AccessType) →
+    Agrees plan ws s →
+    is_ok (load_at ws w (translated plan ws s address t)) ≡ true →
+    Passes plan ws s address t
+load_passes plan ws s w address t agrees e =
+    let at = load_ok ws w (translated plan ws s address t) e in leads_passes plan ws s address t at.0 agrees at.1
 
 pub store_passes :
-    (f : PageGeometry) (k b : ℕ) (ws : List ℕ) (s : UnitState) (w : Width) (value address : ℕ) (t : AccessType) →
-    Agrees f k b ws s →
-    is_ok (store_at ws w value (translated f k b ws s address t)) ≡ true →
-    Passes f k b ws s address t
-store_passes f k b ws s w value address t agrees e =
-    let at = store_ok ws w value (translated f k b ws s address t) e in leads_passes f k b ws s address t at.0 agrees at.1
+    (plan : PlanNumbers) (ws : List ℕ) (s : UnitState) (w : Width) (value address : ℕ) (t : AccessType) →
+    Agrees plan ws s →
+    is_ok (store_at ws w value (translated plan ws s address t)) ≡ true →
+    Passes plan ws s address t
+store_passes plan ws s w value address t agrees e =
+    let at = store_ok ws w value (translated plan ws s address t) e in leads_passes plan ws s address t at.0 agrees at.1
 
 pub load_accepts :
-    (f : PageGeometry) (k b : ℕ) (ws : List ℕ) (s : UnitState) (w : Width) (address : ℕ) (t : AccessType) →
-    Planned f k →
-    Agrees f k b ws s →
-    Passes f k b ws s address t →
-    is_ok (load_at ws w (translated f k b ws s address t)) ≡ true
-load_accepts f k b ws s w address t plan agrees pass =
-    let number = pass.found.entry * f.page + place_in_page f (offset_of address) in
-    let inside = place_inside f k pass.found.entry (offset_of address) ws plan pass.sized (found_inside f k b ws s address t pass) in
+    (plan : PlanNumbers) (ws : List ℕ) (s : UnitState) (w : Width) (address : ℕ) (t : AccessType) →
+    Planned plan.form plan.exponent →
+    Agrees plan ws s →
+    Passes plan ws s address t →
+    is_ok (load_at ws w (translated plan ws s address t)) ≡ true
+load_accepts plan ws s w address t planned agrees pass =
+    let number = pass.found.entry * plan.form.page + place_in_page plan.form (offset_of address) in
+    let inside = place_inside plan.form plan.exponent pass.found.entry (offset_of address) ws planned pass.sized (found_inside plan ws s address t pass) in
     essence_ok
-    (load_at ws w (translated f k b ws s address t))
+    (load_at ws w (translated plan ws s address t))
     (loaded ws w number)
-    (load_plain ws w (translated f k b ws s address t)
-    ∙ ap (plain_load ws w) (translated-plain f k b ws s address t agrees ∙ passes_leads f k b ws s address t pass)
+    (load_plain ws w (translated plan ws s address t)
+    ∙ ap (plain_load ws w) (translated-plain plan ws s address t agrees ∙ passes_leads plan ws s address t pass)
     ∙ cond-true (ltb (number / 4) (length ws)) _ _ (lt-ltb _ _ inside))
 
 pub store-accepts :
-    (f : PageGeometry) (k b : ℕ) (ws : List ℕ) (s : UnitState) (w : Width) (value address : ℕ) (t : AccessType) →
-    Planned f k →
-    Agrees f k b ws s →
+    (plan : PlanNumbers) (ws : List ℕ) (s : UnitState) (w : Width) (value address : ℕ) (t : AccessType) →
+    Planned plan.form plan.exponent →
+    Agrees plan ws s →
     value < value_limit w →
-    Passes f k b ws s address t →
-    is_ok (store_at ws w value (translated f k b ws s address t)) ≡ true
-store-accepts f k b ws s w value address t plan agrees fits pass =
-    let number = pass.found.entry * f.page + place_in_page f (offset_of address) in
-    let inside = place_inside f k pass.found.entry (offset_of address) ws plan pass.sized (found_inside f k b ws s address t pass) in
+    Passes plan ws s address t →
+    is_ok (store_at ws w value (translated plan ws s address t)) ≡ true
+store-accepts plan ws s w value address t planned agrees fits pass =
+    let number = pass.found.entry * plan.form.page + place_in_page plan.form (offset_of address) in
+    let inside = place_inside plan.form plan.exponent pass.found.entry (offset_of address) ws planned pass.sized (found_inside plan ws s address t pass) in
     let done : store_of ws w number value ≡ Ok tt =
     cond-true (ltb value (value_limit w)) _ _ (lt-ltb _ _ fits) ∙ cond-true (ltb (number / 4) (length ws)) _ _ (lt-ltb _ _ inside)
     in
     essence_ok
-    (store_at ws w value (translated f k b ws s address t))
+    (store_at ws w value (translated plan ws s address t))
     0
-    (store-plain ws w value (translated f k b ws s address t)
-    ∙ ap (plain_store ws w value) (translated-plain f k b ws s address t agrees ∙ passes_leads f k b ws s address t pass)
+    (store-plain ws w value (translated plan ws s address t)
+    ∙ ap (plain_store ws w value) (translated-plain plan ws s address t agrees ∙ passes_leads plan ws s address t pass)
     ∙ ap zeroed done)
 
 -- but for the count and the last entry, the answer is that of empty buffers
 pub load_unseen :
-    (f : PageGeometry) (k b : ℕ) (ws : List ℕ) (s : UnitState) (w : Width) (address : ℕ) (t : AccessType) →
-    Agrees f k b ws s →
-    essence (load_at ws w (translated f k b ws s address t))
-    ≡ essence (load_at ws w (translated f k b ws (without_buffers s) address t))
-load_unseen f k b ws s w address t agrees =
-    load_plain ws w (translated f k b ws s address t)
-    ∙ ap (plain_load ws w) (translated-plain f k b ws s address t agrees ∙ sym (translated-plain f k b ws (without_buffers s) address t (each_empty _)))
-    ∙ sym (load_plain ws w (translated f k b ws (without_buffers s) address t))
+    (plan : PlanNumbers) (ws : List ℕ) (s : UnitState) (w : Width) (address : ℕ) (t : AccessType) →
+    Agrees plan ws s →
+    essence (load_at ws w (translated plan ws s address t))
+    ≡ essence (load_at ws w (translated plan ws (without_buffers s) address t))
+load_unseen plan ws s w address t agrees =
+    load_plain ws w (translated plan ws s address t)
+    ∙ ap (plain_load ws w) (translated-plain plan ws s address t agrees ∙ sym (translated-plain plan ws (without_buffers s) address t (each_empty _)))
+    ∙ sym (load_plain ws w (translated plan ws (without_buffers s) address t))
 
 pub store_unseen :
-    (f : PageGeometry) (k b : ℕ) (ws : List ℕ) (s : UnitState) (w : Width) (value address : ℕ) (t : AccessType) →
-    Agrees f k b ws s →
-    essence (store_at ws w value (translated f k b ws s address t))
-    ≡ essence (store_at ws w value (translated f k b ws (without_buffers s) address t))
-store_unseen f k b ws s w value address t agrees =
-    store-plain ws w value (translated f k b ws s address t)
-    ∙ ap (plain_store ws w value) (translated-plain f k b ws s address t agrees ∙ sym (translated-plain f k b ws (without_buffers s) address t (each_empty _)))
-    ∙ sym (store-plain ws w value (translated f k b ws (without_buffers s) address t))
+    (plan : PlanNumbers) (ws : List ℕ) (s : UnitState) (w : Width) (value address : ℕ) (t : AccessType) →
+    Agrees plan ws s →
+    essence (store_at ws w value (translated plan ws s address t))
+    ≡ essence (store_at ws w value (translated plan ws (without_buffers s) address t))
+store_unseen plan ws s w value address t agrees =
+    store-plain ws w value (translated plan ws s address t)
+    ∙ ap (plain_store ws w value) (translated-plain plan ws s address t agrees ∙ sym (translated-plain plan ws (without_buffers s) address t (each_empty _)))
+    ∙ sym (store-plain ws w value (translated plan ws (without_buffers s) address t))

@@ -2,9 +2,10 @@
 use Rattle.std.proofs.Common.{◌≡◌, ℕ, ◌+◌, ◌*◌, Bool, true, false, cond, List, Some, None, Ok, Err, Option, Result, sym, refl, ap, ◌∙◌}
 use Rattle.refusals.specs.declared.refusal.Refusal.{Refusal}
 use Rattle.paging.specs.declared.geometry.PageGeometry.{PageGeometry}
+use Rattle.paging.specs.Numbers.{PlanNumbers}
 use Rattle.paging.specs.Address.{offset_of, place_in_page}
-use Rattle.next_page_table.specs.declared.entry.Tag.{Tag}
-use Rattle.next_page_table.specs.Search.{Outcome}
+use Rattle.page_table.specs.declared.entry.Tag.{Tag}
+use Rattle.page_table.specs.Search.{Outcome}
 use Rattle.lanes.specs.declared.width.Width.{Width}
 use Rattle.lanes.specs.Lanes.{load_of, store_of}
 use Rattle.protection.specs.declared.register.SegmentRegister.{SegmentRegister}
@@ -13,7 +14,7 @@ use Rattle.protection.specs.Permission.{permitted}
 use Rattle.tlb.specs.declared.buffers.Translation.{Translation}
 use Rattle.tlb.specs.Lookup.{hit_of}
 use Rattle.tlb.proofs.Entries.{hit_each}
-use Rattle.unit_state.specs.declared.answer.Fault.{Fault}
+use Rattle.page_table.specs.declared.walk.Fault.{Fault}
 use Rattle.unit_state.specs.declared.state.UnitState.{UnitState}
 use Rattle.unit_state.specs.declared.translation.Located.{Located}
 use Rattle.unit_state.specs.declared.translation.Place.{Place}
@@ -43,21 +44,21 @@ plain_named (Ok x) = Ok (kept_of x)
 plain_named (Err e) = Err e.refusal
 
 pub located-plain :
-    (f : PageGeometry) (k b : ℕ) (ws : List ℕ) (s : UnitState) (tag : Tag) →
-    Agrees f k b ws s →
-    plain_located (located f k b ws s tag) ≡ plain_named (found_for f k b ws s tag)
+    (plan : PlanNumbers) (ws : List ℕ) (s : UnitState) (tag : Tag) →
+    Agrees plan ws s →
+    plain_located (located plan ws s tag) ≡ plain_named (found_for plan ws s tag)
 unfolding located
-located-plain f k b ws s tag agrees = ways (hit_of s.buffers tag) refl (found_for f k b ws s tag) refl
+located-plain plan ws s tag agrees = ways (hit_of s.buffers tag) refl (found_for plan ws s tag) refl
   where
     ways :
         (h : Option Translation) →
         hit_of s.buffers tag ≡ h →
         (r : Outcome) →
-        found_for f k b ws s tag ≡ r →
+        found_for plan ws s tag ≡ r →
         plain_located (located_by h r) ≡ plain_named r
     ways (Some t) hit r is =
-        let held = hit_each (Named f k b ws s) s.buffers tag t agrees hit in
-        let there = ap (found_for f k b ws s) (sym held.1) ∙ held.0.is in
+        let held = hit_each (Named plan ws s) s.buffers tag t agrees hit in
+        let there = ap (found_for plan ws s) (sym held.1) ∙ held.0.is in
         ap (λ (x : Translation). Ok x) (sym held.0.kept) ∙ ap plain_named (sym there ∙ is)
     ways None _ (Ok x) _ = refl
     ways None _ (Err e) _ = refl
@@ -100,39 +101,39 @@ plain_refused_or None r = r
 plain_refused_or (Some e) r = Err e
 
 -- the translation by the tables alone
-abbrev pub plain_translated : PageGeometry → ℕ → ℕ → List ℕ → UnitState → ℕ → AccessType → Result Spot Refusal
-plain_translated f k b ws s address t =
+abbrev pub plain_translated : PlanNumbers → List ℕ → UnitState → ℕ → AccessType → Result Spot Refusal
+plain_translated plan ws s address t =
     plain_refused_or
-    (entry_refusal k ws (segment_at s address))
+    (entry_refusal plan.exponent ws (segment_at s address))
     (plain_judged
-    f
+    plan.form
     (segment_at s address)
     s.transaction
     (offset_of address)
     t
-    (plain_named (found_for f k b ws s (tag_at f (segment_at s address) address))))
+    (plain_named (found_for plan ws s (tag_at plan.form (segment_at s address) address))))
 
 pub translated-plain :
-    (f : PageGeometry) (k b : ℕ) (ws : List ℕ) (s : UnitState) (address : ℕ) (t : AccessType) →
-    Agrees f k b ws s →
-    plain_place (translated f k b ws s address t) ≡ plain_translated f k b ws s address t
+    (plan : PlanNumbers) (ws : List ℕ) (s : UnitState) (address : ℕ) (t : AccessType) →
+    Agrees plan ws s →
+    plain_place (translated plan ws s address t) ≡ plain_translated plan ws s address t
 unfolding translated
-translated-plain f k b ws s address t agrees = ways (entry_refusal k ws r)
+translated-plain plan ws s address t agrees = ways (entry_refusal plan.exponent ws r)
   where
     r : SegmentRegister
     r = segment_at s address
 
     found : Result Located Fault
-    found = located f k b ws s (tag_at f r address)
+    found = located plan ws s (tag_at plan.form r address)
 
     ways :
         (o : Option Refusal) →
-        plain_place (refused_or o (judged f r s.transaction (offset_of address) t found))
-        ≡ plain_refused_or o (plain_judged f r s.transaction (offset_of address) t (plain_named (found_for f k b ws s (tag_at f r address))))
+        plain_place (refused_or o (judged plan.form r s.transaction (offset_of address) t found))
+        ≡ plain_refused_or o (plain_judged plan.form r s.transaction (offset_of address) t (plain_named (found_for plan ws s (tag_at plan.form r address))))
     ways (Some e) = refl
     ways None =
-        judged-plain f r s.transaction (offset_of address) t found
-        ∙ ap (plain_judged f r s.transaction (offset_of address) t) (located-plain f k b ws s (tag_at f r address) agrees)
+        judged-plain plan.form r s.transaction (offset_of address) t found
+        ∙ ap (plain_judged plan.form r s.transaction (offset_of address) t) (located-plain plan ws s (tag_at plan.form r address) agrees)
 
 abbrev pub plain_load : List ℕ → Width → Result Spot Refusal → Result ℕ Refusal
 plain_load ws w (Ok p) = load_of ws w p.0

@@ -1,29 +1,25 @@
 -- What the unit's type says of its state, and what keeps it.
 use Rattle.std.proofs.Common.{◌≡◌, ℕ, ◌<◌, ◌≤◌, Bool, false, List, length, get_or, set, replicate, sym, ap, ◌∙◌, subst, ⊎_elim, arith, length-set}
-use lib.ListN.{length-replicate}
 use Rattle.std.proofs.lemmas.Bool.{cases_eq, cases_lt}
-use Rattle.std.proofs.lemmas.List.{get_or-set_same, get_or-set_other, set_past, get_or-replicate, get_or_past}
+use Rattle.std.proofs.lemmas.List.{get_or-set_same, get_or-set_other, set_past}
 use Rattle.protection.specs.declared.register.SegmentRegister.{SegmentRegister}
 use Rattle.tlb.specs.declared.buffers.Buffers.{Buffers}
-use Rattle.tlb.specs.Lookup.{empty_buffers, EachUnique, EachNear}
-use Rattle.tlb.proofs.Entries.{each_empty, unique_empty}
+use Rattle.tlb.specs.Lookup.{empty_buffers}
 use Rattle.exceptions.specs.declared.registers.Exceptions.{Exceptions}
 use Rattle.exceptions.specs.Raising.{no_exceptions}
 use Rattle.unit_state.specs.declared.state.PageMark.{PageMark}
 use Rattle.unit_state.specs.declared.state.UnitState.{UnitState}
 use Rattle.unit_state.specs.Registers.{absent, NarrowIds}
-use Rattle.unit_state.specs.State.{no_mark, powered_on}
+use Rattle.unit_state.specs.State.{no_mark, powered_on, with_segments}
 use Rattle.unit_state.specs.Marks.{used_page}
-
-abbrev pub Sound : UnitState → Type 0
-Sound s =
-    (length s.marks ≡ 8192) × (NarrowIds s.segments × (EachUnique s.buffers × (EachNear s.buffers × Unit {0})))
+use Rattle.unit_state.specs.Sound.{Sound}
 
 pub sound_used : (s : UnitState) (page : ℕ) (store : Bool) → Sound s → Sound (used_page s page store)
 unfolding used_page
-sound_used s page store sound = (simp length-set sound.0, sound.1)
+sound_used s page store sound =
+    record { whole = simp length-set sound.whole; narrow = sound.narrow; unique = sound.unique; near = sound.near }
 
-pub narrow_set :
+narrow_set :
     (segments : List SegmentRegister) (n : ℕ) (r : SegmentRegister) →
     r.segment ≤ 4095 →
     NarrowIds segments →
@@ -38,13 +34,14 @@ narrow_set segments n r low narrow i =
     (λ differs. subst P (sym (get_or-set_other segments n i r absent differs)) (narrow i))
     (cases_eq i n)
 
-pub narrow_absent : NarrowIds (replicate 16 absent)
-narrow_absent i =
-    let P : SegmentRegister → Type 0 = λ x. x.segment < 4096 in
-    ⊎_elim
-    (λ inside. subst P (sym (get_or-replicate 16 i absent absent inside)) (omega arith))
-    (λ past. subst P (sym (get_or_past (replicate 16 absent) i absent past)) (omega arith))
-    (cases_lt i 16)
+-- a write of a segment register keeps it
+pub sound_written :
+    (s : UnitState) (n : ℕ) (r : SegmentRegister) →
+    r.segment ≤ 4095 →
+    Sound s →
+    Sound (with_segments s (set s.segments n r))
+sound_written s n r low sound =
+    record { whole = sound.whole; narrow = narrow_set s.segments n r low sound.narrow; unique = sound.unique; near = sound.near }
 
 -- the state that power-on puts together
 pub powered_on_lem :
@@ -65,17 +62,3 @@ pub powered_on_lem :
     powered_on
 unfolding powered_on
 powered_on_lem segments b e marks are-absent is-empty is_none are-unmarked = cc
-
-pub sound_powered :
-    (segments : List SegmentRegister) (b : Buffers) (marks : List PageMark) →
-    segments ≡ replicate 16 absent →
-    b ≡ empty_buffers →
-    marks ≡ replicate 8192 no_mark →
-    (length marks ≡ 8192) × (NarrowIds segments × (EachUnique b × (EachNear b × Unit {0})))
-sound_powered segments b marks are-absent is-empty are-unmarked = (
-  ap length are-unmarked ∙ length-replicate 8192 no_mark,
-  (
-    subst NarrowIds (sym are-absent) narrow_absent,
-    (subst EachUnique (sym is-empty) unique_empty, (subst EachNear (sym is-empty) (each_empty _), tt)),
-  ),
-)

@@ -2,8 +2,9 @@
 use Rattle.std.specs.Prelude.{ℕ, Some, None, Ok, Err, Option, Result}
 use Rattle.refusals.specs.declared.refusal.Refusal.{Refusal}
 use Rattle.refusals.specs.Numbers.{number_of}
+use Rattle.page_table.specs.declared.walk.Fault.{Fault}
+use Rattle.page_table.specs.Search.{uncompared}
 use Rattle.unit_state.specs.declared.answer.Access.{Access}
-use Rattle.unit_state.specs.declared.answer.Fault.{Fault}
 
 abbrev pub Answer : Type 0
 Answer = Result Access Fault
@@ -17,10 +18,6 @@ answer_number (Err e) = number_of e.refusal
 abbrev pub answer_value : Answer → ℕ
 answer_value (Ok a) = a.value
 answer_value (Err e) = 0
-
--- A refusal before any walk: no table entry was compared.
-abbrev pub uncompared : Refusal → Fault
-uncompared r = record { refusal = r; compared = 0; last = None }
 
 -- what a request that walks no table answers, by the rule that refuses it, if one does
 abbrev pub answered : Option Refusal → ℕ → Answer

@@ -5,3 +5,4 @@ pub mod Marks
 pub mod Translation
 pub mod Requests
 pub mod Laws
+pub mod Sound

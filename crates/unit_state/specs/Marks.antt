@@ -2,7 +2,7 @@
 use Rattle.std.specs.Prelude.{ℕ, Bool, true, cond, ◌||◌, Some, None, Option, nat_lt, slice_index_or, slice_set}
 use Rattle.refusals.specs.declared.refusal.Refusal.{Refusal}
 use Rattle.refusals.specs.declared.refusal.Refusal.TheVariants.{PageMarkOutside}
-use Rattle.paging.specs.declared.geometry.PageGeometry.{PageGeometry}
+use Rattle.paging.specs.Numbers.{PlanNumbers}
 use Rattle.paging.specs.Plan.{page_count}
 use Rattle.unit_state.specs.declared.state.PageMark.{PageMark}
 use Rattle.unit_state.specs.declared.state.UnitState.{UnitState}
@@ -21,5 +21,5 @@ abbrev pub cleared_page : UnitState → ℕ → UnitState
 cleared_page s page = with_marks s (slice_set s.marks page no_mark)
 
 -- A page that the plan has not has no mark.
-abbrev pub mark_refusal : PageGeometry → ℕ → ℕ → Option Refusal
-mark_refusal f k page = cond (nat_lt page (page_count f k)) None (Some PageMarkOutside)
+abbrev pub mark_refusal : PlanNumbers → ℕ → Option Refusal
+mark_refusal plan page = cond (nat_lt page (page_count plan.form plan.exponent)) None (Some PageMarkOutside)

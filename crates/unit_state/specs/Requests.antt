@@ -2,7 +2,7 @@
 use Rattle.std.specs.Prelude.{◌≡◌, ℕ, Bool, true, false, cond, List, Ok, Err, Result, nat_lt}
 use Rattle.refusals.specs.declared.refusal.Refusal.{Refusal}
 use Rattle.refusals.specs.declared.refusal.Refusal.TheVariants.{ValueTooWide}
-use Rattle.paging.specs.declared.geometry.PageGeometry.{PageGeometry}
+use Rattle.paging.specs.Numbers.{PlanNumbers}
 use Rattle.paging.specs.declared.address.EffectiveAddress.{EffectiveAddress}
 use Rattle.lanes.specs.declared.width.Width.{Width}
 use Rattle.lanes.specs.Lanes.{value_limit, load_of, store_of, stored_if}
@@ -11,10 +11,11 @@ use Rattle.protection.specs.declared.access_type.AccessType.{AccessType}
 use Rattle.protection.specs.declared.access_type.AccessType.TheVariants.{Load, Store}
 use Rattle.exceptions.specs.Raising.{noted}
 use Rattle.unit_state.specs.declared.answer.Access.{Access}
-use Rattle.unit_state.specs.declared.answer.Fault.{Fault}
+use Rattle.page_table.specs.declared.walk.Fault.{Fault}
 use Rattle.unit_state.specs.declared.state.UnitState.{UnitState}
 use Rattle.unit_state.specs.declared.translation.Place.{Place}
-use Rattle.unit_state.specs.Answers.{Answer, uncompared}
+use Rattle.page_table.specs.Search.{uncompared}
+use Rattle.unit_state.specs.Answers.{Answer}
 use Rattle.unit_state.specs.State.{with_exceptions}
 use Rattle.unit_state.specs.Marks.{used_page}
 use Rattle.unit_state.specs.Translation.{translated, translated_state}
@@ -59,59 +60,59 @@ noted_in s (Ok a) address t = s
 noted_in s (Err e) address t = with_exceptions s (noted s.exceptions e.refusal address t)
 
 -- what the translation of a load, and what that of a store, leads to
-abbrev pub load_place : PageGeometry → ℕ → ℕ → List ℕ → UnitState → EffectiveAddress → Result Place Fault
-load_place f k b ws s address = translated f k b ws s address.number Load
+abbrev pub load_place : PlanNumbers → List ℕ → UnitState → EffectiveAddress → Result Place Fault
+load_place plan ws s address = translated plan ws s address.number Load
 
-abbrev pub store_place : PageGeometry → ℕ → ℕ → List ℕ → UnitState → EffectiveAddress → Result Place Fault
-store_place f k b ws s address = translated f k b ws s address.number Store
+abbrev pub store_place : PlanNumbers → List ℕ → UnitState → EffectiveAddress → Result Place Fault
+store_place plan ws s address = translated plan ws s address.number Store
 
-abbrev pub used_by_load : PageGeometry → ℕ → ℕ → List ℕ → UnitState → Width → EffectiveAddress → UnitState
-used_by_load f k b ws s w address =
+abbrev pub used_by_load : PlanNumbers → List ℕ → UnitState → Width → EffectiveAddress → UnitState
+used_by_load plan ws s w address =
     used_at
-    (translated_state f k b ws s address.number)
-    (load_place f k b ws s address)
-    (load_at ws w (load_place f k b ws s address))
+    (translated_state plan ws s address.number)
+    (load_place plan ws s address)
+    (load_at ws w (load_place plan ws s address))
     false
 
 -- What a load answers, and the unit after it.
-unfoldable pub load_answer : PageGeometry → ℕ → ℕ → List ℕ → UnitState → Width → EffectiveAddress → Answer
-load_answer f k b ws s w address = load_at ws w (load_place f k b ws s address)
+unfoldable pub load_answer : PlanNumbers → List ℕ → UnitState → Width → EffectiveAddress → Answer
+load_answer plan ws s w address = load_at ws w (load_place plan ws s address)
 
-unfoldable pub after_load : PageGeometry → ℕ → ℕ → List ℕ → UnitState → Width → EffectiveAddress → UnitState
-after_load f k b ws s w address =
-    noted_in (used_by_load f k b ws s w address) (load_at ws w (load_place f k b ws s address)) address Load
+unfoldable pub after_load : PlanNumbers → List ℕ → UnitState → Width → EffectiveAddress → UnitState
+after_load plan ws s w address =
+    noted_in (used_by_load plan ws s w address) (load_at ws w (load_place plan ws s address)) address Load
 
-abbrev pub used_by_store : PageGeometry → ℕ → ℕ → List ℕ → UnitState → Width → EffectiveAddress → ℕ → UnitState
-used_by_store f k b ws s w address value =
+abbrev pub used_by_store : PlanNumbers → List ℕ → UnitState → Width → EffectiveAddress → ℕ → UnitState
+used_by_store plan ws s w address value =
     used_at
-    (translated_state f k b ws s address.number)
-    (store_place f k b ws s address)
-    (store_at ws w value (store_place f k b ws s address))
+    (translated_state plan ws s address.number)
+    (store_place plan ws s address)
+    (store_at ws w value (store_place plan ws s address))
     true
 
 -- What a store answers, the unit after it, and the storage after it. A value that is too wide is refused before all else, and
 -- alters nothing.
-unfoldable pub store_answer : PageGeometry → ℕ → ℕ → List ℕ → UnitState → Width → EffectiveAddress → ℕ → Answer
-store_answer f k b ws s w address value =
-    cond (nat_lt value (value_limit w)) (store_at ws w value (store_place f k b ws s address)) (Err (uncompared ValueTooWide))
+unfoldable pub store_answer : PlanNumbers → List ℕ → UnitState → Width → EffectiveAddress → ℕ → Answer
+store_answer plan ws s w address value =
+    cond (nat_lt value (value_limit w)) (store_at ws w value (store_place plan ws s address)) (Err (uncompared ValueTooWide))
 
-unfoldable pub after_store : PageGeometry → ℕ → ℕ → List ℕ → UnitState → Width → EffectiveAddress → ℕ → UnitState
-after_store f k b ws s w address value =
+unfoldable pub after_store : PlanNumbers → List ℕ → UnitState → Width → EffectiveAddress → ℕ → UnitState
+after_store plan ws s w address value =
     cond
     (nat_lt value (value_limit w))
-    (noted_in (used_by_store f k b ws s w address value) (store_at ws w value (store_place f k b ws s address)) address Store)
+    (noted_in (used_by_store plan ws s w address value) (store_at ws w value (store_place plan ws s address)) address Store)
     s
 
-unfoldable pub store_words : PageGeometry → ℕ → ℕ → List ℕ → UnitState → Width → EffectiveAddress → ℕ → List ℕ
-store_words f k b ws s w address value =
-    cond (nat_lt value (value_limit w)) (words_at ws w value (store_place f k b ws s address)) ws
+unfoldable pub store_words : PlanNumbers → List ℕ → UnitState → Width → EffectiveAddress → ℕ → List ℕ
+store_words plan ws s w address value =
+    cond (nat_lt value (value_limit w)) (words_at ws w value (store_place plan ws s address)) ws
 
 -- An accepted load gives the bytes at the real address that its translation names.
-abbrev pub LoadedAt : PageGeometry → ℕ → ℕ → List ℕ → UnitState → Width → EffectiveAddress → Access → Type 0
-LoadedAt f k b ws s w address a =
-    (p : Place) × (load_place f k b ws s address ≡ Ok p) × LoadedBytes ws w p.address.number a.value
+abbrev pub LoadedAt : PlanNumbers → List ℕ → UnitState → Width → EffectiveAddress → Access → Type 0
+LoadedAt plan ws s w address a =
+    (p : Place) × (load_place plan ws s address ≡ Ok p) × LoadedBytes ws w p.address.number a.value
 
 -- An accepted store alters the bytes of one aligned unit at the real address that its translation names, and no other byte.
-abbrev pub StoredAt : PageGeometry → ℕ → ℕ → List ℕ → List ℕ → UnitState → Width → EffectiveAddress → ℕ → Type 0
-StoredAt f k b ws vs s w address value =
-    (p : Place) × (store_place f k b ws s address ≡ Ok p) × StoredBytes ws vs w p.address.number value
+abbrev pub StoredAt : PlanNumbers → List ℕ → List ℕ → UnitState → Width → EffectiveAddress → ℕ → Type 0
+StoredAt plan ws vs s w address value =
+    (p : Place) × (store_place plan ws s address ≡ Ok p) × StoredBytes ws vs w p.address.number value

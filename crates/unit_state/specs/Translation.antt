@@ -3,23 +3,23 @@ use Rattle.std.specs.Prelude.{ℕ, ◌+◌, ◌*◌, cond, List, length, Some, N
 use Rattle.refusals.specs.declared.refusal.Refusal.{Refusal}
 use Rattle.refusals.specs.declared.refusal.Refusal.TheVariants.{SizeDiffers, SegmentAbsent, SegmentBarred, ProtectionRefused, LockRefused}
 use Rattle.paging.specs.declared.geometry.PageGeometry.{PageGeometry}
+use Rattle.paging.specs.Numbers.{PlanNumbers}
 use Rattle.paging.specs.Address.{register_of, offset_of, page_of, place_in_page}
 use Rattle.paging.specs.Plan.{storage_bytes}
-use Rattle.next_page_table.specs.declared.entry.Tag.{Tag}
-use Rattle.next_page_table.specs.declared.walk.Found.{Found}
-use Rattle.next_page_table.specs.declared.walk.SearchFault.{SearchFault}
-use Rattle.next_page_table.specs.Search.{Outcome, query_of, found_in}
+use Rattle.page_table.specs.declared.entry.Tag.{Tag}
+use Rattle.page_table.specs.declared.walk.Found.{Found}
+use Rattle.page_table.specs.declared.walk.Fault.{Fault}
+use Rattle.page_table.specs.Search.{Outcome, uncompared, query_of, found_in}
 use Rattle.protection.specs.declared.register.SegmentRegister.{SegmentRegister}
 use Rattle.protection.specs.declared.access_type.AccessType.{AccessType}
 use Rattle.protection.specs.Permission.{permitted}
 use Rattle.tlb.specs.declared.buffers.Translation.{Translation}
 use Rattle.tlb.specs.declared.buffers.Buffers.{Buffers}
 use Rattle.tlb.specs.Lookup.{hit_of, looked_up, loaded_with}
-use Rattle.unit_state.specs.declared.answer.Fault.{Fault}
 use Rattle.unit_state.specs.declared.state.UnitState.{UnitState}
 use Rattle.unit_state.specs.declared.translation.Located.{Located}
 use Rattle.unit_state.specs.declared.translation.Place.{Place}
-use Rattle.unit_state.specs.Answers.{uncompared, unless}
+use Rattle.unit_state.specs.Answers.{unless}
 use Rattle.unit_state.specs.Registers.{absent}
 use Rattle.unit_state.specs.State.{with_buffers}
 
@@ -39,19 +39,16 @@ segment_refusal r = cond r.present (cond r.barred (Some SegmentBarred) None) (So
 abbrev pub entry_refusal : ℕ → List ℕ → SegmentRegister → Option Refusal
 entry_refusal k ws r = cond (4 * length ws == storage_bytes k) (segment_refusal r) (Some SizeDiffers)
 
--- what a request takes over from a walk that found nothing: all of it
-abbrev pub fault_of : SearchFault → Fault
-fault_of e = record { refusal = e.refusal; compared = e.compared; last = e.last }
-
 -- what the buffers keep of a match
 abbrev pub kept_of : Found → Translation
 kept_of x = record { entry = x.entry; page = x.page }
 
--- A hit compares no table entry. What a walk found comes with its count, and the match as the last entry.
+-- A hit compares no table entry. What a walk found comes with its count, and the match as the last entry; a walk that found
+-- nothing is refused as it is.
 abbrev pub located_by : Option Translation → Outcome → Result Located Fault
 located_by (Some t) r = Ok (record { translation = t; compared = 0; last = None })
 located_by None (Ok x) = Ok (record { translation = kept_of x; compared = x.compared; last = Some x.entry })
-located_by None (Err e) = Err (fault_of e)
+located_by None (Err e) = Err e
 
 -- A successful walk is kept.
 abbrev pub kept_by : Buffers → Option Translation → Outcome → Buffers
@@ -59,17 +56,17 @@ kept_by b (Some t) r = b
 kept_by b None (Ok x) = loaded_with b (kept_of x)
 kept_by b None (Err e) = b
 
-abbrev pub found_for : PageGeometry → ℕ → ℕ → List ℕ → UnitState → Tag → Outcome
-found_for f k b ws s tag = found_in f ws (query_of f k b s.long_stop tag)
+abbrev pub found_for : PlanNumbers → List ℕ → UnitState → Tag → Outcome
+found_for plan ws s tag = found_in plan.form ws (query_of plan s.long_stop tag)
 
 -- where the look-aside buffers, or else a walk, find a virtual page
-unfoldable pub located : PageGeometry → ℕ → ℕ → List ℕ → UnitState → Tag → Result Located Fault
-located f k b ws s tag = located_by (hit_of s.buffers tag) (found_for f k b ws s tag)
+unfoldable pub located : PlanNumbers → List ℕ → UnitState → Tag → Result Located Fault
+located plan ws s tag = located_by (hit_of s.buffers tag) (found_for plan ws s tag)
 
 -- the look-aside buffers after that
-unfoldable pub buffers_after : PageGeometry → ℕ → ℕ → List ℕ → UnitState → Tag → Buffers
-buffers_after f k b ws s tag =
-    kept_by (looked_up s.buffers tag) (hit_of s.buffers tag) (found_for f k b ws s tag)
+unfoldable pub buffers_after : PlanNumbers → List ℕ → UnitState → Tag → Buffers
+buffers_after plan ws s tag =
+    kept_by (looked_up s.buffers tag) (hit_of s.buffers tag) (found_for plan ws s tag)
 
 -- Protection refuses a request by 13 in an ordinary segment, by 14 in a special one.
 abbrev pub protection_refusal : SegmentRegister → Refusal
@@ -99,22 +96,22 @@ refused_or None r = r
 refused_or (Some e) r = Err (uncompared e)
 
 -- the real address of a request, or why it has none
-unfoldable pub translated : PageGeometry → ℕ → ℕ → List ℕ → UnitState → ℕ → AccessType → Result Place Fault
-translated f k b ws s address t =
+unfoldable pub translated : PlanNumbers → List ℕ → UnitState → ℕ → AccessType → Result Place Fault
+translated plan ws s address t =
     refused_or
-    (entry_refusal k ws (segment_at s address))
+    (entry_refusal plan.exponent ws (segment_at s address))
     (judged
-    f
+    plan.form
     (segment_at s address)
     s.transaction
     (offset_of address)
     t
-    (located f k b ws s (tag_at f (segment_at s address) address)))
+    (located plan ws s (tag_at plan.form (segment_at s address) address)))
 
 -- the unit after the translation: only the look-aside buffers were altered, whatever protection says
-unfoldable pub translated_state : PageGeometry → ℕ → ℕ → List ℕ → UnitState → ℕ → UnitState
-translated_state f k b ws s address =
+unfoldable pub translated_state : PlanNumbers → List ℕ → UnitState → ℕ → UnitState
+translated_state plan ws s address =
     unless
-    (entry_refusal k ws (segment_at s address))
+    (entry_refusal plan.exponent ws (segment_at s address))
     s
-    (with_buffers s (buffers_after f k b ws s (tag_at f (segment_at s address) address)))
+    (with_buffers s (buffers_after plan ws s (tag_at plan.form (segment_at s address) address)))

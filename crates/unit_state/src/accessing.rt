@@ -1,18 +1,45 @@
-ghost use Rattle.std.specs.Prelude.{◌≡◌, IfOk, OnOk};
+ghost use Rattle.std.specs.Prelude.{◌≡◌, IfOk, OnOk, Ok, Err};
+ghost use Rattle.paging.specs.Numbers.{numbers_of};
 ghost use Rattle.tlb.specs.Lookup.{EachNear};
 ghost use Rattle.unit_state.specs.Registers.{NarrowIds};
-ghost use Rattle.unit_state.specs.Requests.{load_at, store_at, words_at, noted_in, load_place, store_place, used_by_load, used_by_store, LoadedAt, StoredAt};
+ghost use Rattle.unit_state.specs.Requests.{accepts, refuses, load_at, store_at, words_at, noted_in, load_place, store_place, used_by_load, used_by_store, LoadedAt, StoredAt};
 
 use crate::answer::{Access, Fault};
 use crate::answers::Answer;
 use crate::state::UnitState;
+use crate::translation::Place;
 use lanes::access::{load_unit, store_unit};
 use lanes::width::Width;
 use paging::address::EffectiveAddress;
 use paging::form::PageForm;
 use paging::plan::SettledPlan;
 use protection::access_type::AccessType;
+use refusals::refusal::Refusal;
 use storage::words::{ReadStorage, Storage};
+
+impl Place {
+    // What a request answers that is accepted there.
+    pub(crate) fn accept(self, value: u32) -> Access
+        ensures { Ok result ≡ accepts self value }
+    {
+        Access {
+            value,
+            compared: self.compared,
+            last: self.last,
+        }
+    }
+
+    // What a request answers that is refused there.
+    pub(crate) fn refuse(self, refusal: Refusal) -> Fault
+        ensures { Err result ≡ refuses self refusal }
+    {
+        Fault {
+            refusal,
+            compared: self.compared,
+            last: self.last,
+        }
+    }
+}
 
 impl UnitState {
     // Loads where the translation leads to, and marks the page.
@@ -25,26 +52,16 @@ impl UnitState {
     ) -> Answer
         requires narrow { NarrowIds self.old.segments }
         requires near { EachNear self.old.buffers }
-        ensures answer { result ≡ load_at (S.ReadStorage.words storage.now) width (load_place F.PageForm.sizes plan.now.exponent (F.PageForm.base plan.now.base) (S.ReadStorage.words storage.now) self.old address) }
-        ensures state { self.new ≡ used_by_load F.PageForm.sizes plan.now.exponent (F.PageForm.base plan.now.base) (S.ReadStorage.words storage.now) self.old width address }
-        ensures bytes { IfOk result (λ a. LoadedAt F.PageForm.sizes plan.now.exponent (F.PageForm.base plan.now.base) (S.ReadStorage.words storage.now) self.old width address a) }
+        ensures answer { result ≡ load_at (S.ReadStorage.words storage.now) width (load_place (numbers_of plan.now) (S.ReadStorage.words storage.now) self.old address) }
+        ensures state { self.new ≡ used_by_load (numbers_of plan.now) (S.ReadStorage.words storage.now) self.old width address }
+        ensures bytes { IfOk result (λ a. LoadedAt (numbers_of plan.now) (S.ReadStorage.words storage.now) self.old width address a) }
     {
         let place = self.translate(storage, plan, address, AccessType::Load)?;
-        match load_unit(storage, place.address.number, width) {
-            Ok(value) => {
-                self.use_page(u32::from(place.page), false);
-                Ok(Access {
-                    value,
-                    compared: place.compared,
-                    last: place.last,
-                })
-            }
-            Err(refusal) => Err(Fault {
-                refusal,
-                compared: place.compared,
-                last: place.last,
-            }),
-        }
+        let value = load_unit(storage, place.address.number, width).map_err(|refusal| place.refuse(
+            refusal,
+        ))?;
+        self.use_page(u32::from(place.page), false);
+        Ok(place.accept(value))
     }
 
     // Stores a value that fits its width where the translation leads to, and marks the page.
@@ -58,28 +75,18 @@ impl UnitState {
     ) -> Answer
         requires narrow { NarrowIds self.old.segments }
         requires near { EachNear self.old.buffers }
-        ensures answer { result ≡ store_at (S.ReadStorage.words storage.old) width value (store_place F.PageForm.sizes plan.now.exponent (F.PageForm.base plan.now.base) (S.ReadStorage.words storage.old) self.old address) }
-        ensures state { self.new ≡ used_by_store F.PageForm.sizes plan.now.exponent (F.PageForm.base plan.now.base) (S.ReadStorage.words storage.old) self.old width address value }
-        ensures words { S.ReadStorage.words storage.new ≡ words_at (S.ReadStorage.words storage.old) width value (store_place F.PageForm.sizes plan.now.exponent (F.PageForm.base plan.now.base) (S.ReadStorage.words storage.old) self.old address) }
-        ensures bytes { OnOk result (StoredAt F.PageForm.sizes plan.now.exponent (F.PageForm.base plan.now.base) (S.ReadStorage.words storage.old) (S.ReadStorage.words storage.new) self.old width address value) }
+        ensures answer { result ≡ store_at (S.ReadStorage.words storage.old) width value (store_place (numbers_of plan.now) (S.ReadStorage.words storage.old) self.old address) }
+        ensures state { self.new ≡ used_by_store (numbers_of plan.now) (S.ReadStorage.words storage.old) self.old width address value }
+        ensures words { S.ReadStorage.words storage.new ≡ words_at (S.ReadStorage.words storage.old) width value (store_place (numbers_of plan.now) (S.ReadStorage.words storage.old) self.old address) }
+        ensures bytes { OnOk result (StoredAt (numbers_of plan.now) (S.ReadStorage.words storage.old) (S.ReadStorage.words storage.new) self.old width address value) }
         ensures lenders { S.Storage.lenders storage.new ≡ S.Storage.lenders storage.old }
     {
         let place = self.translate(storage, plan, address, AccessType::Store)?;
-        match store_unit(storage, place.address.number, width, value) {
-            Ok(()) => {
-                self.use_page(u32::from(place.page), true);
-                Ok(Access {
-                    value: 0,
-                    compared: place.compared,
-                    last: place.last,
-                })
-            }
-            Err(refusal) => Err(Fault {
-                refusal,
-                compared: place.compared,
-                last: place.last,
-            }),
-        }
+        store_unit(storage, place.address.number, width, value).map_err(|refusal| place.refuse(
+            refusal,
+        ))?;
+        self.use_page(u32::from(place.page), true);
+        Ok(place.accept(0))
     }
 
     // Raises the exception of a refused request.

@@ -1,21 +1,7 @@
 ghost use Rattle.std.specs.Prelude.{◌≡◌};
-ghost use Rattle.unit_state.specs.Answers.{uncompared, answer_number, answer_value};
+ghost use Rattle.unit_state.specs.Answers.{answer_number, answer_value};
 
 use crate::answer::{Access, Fault};
-use refusals::refusal::Refusal;
-
-// A refusal that comes before any table entry is compared.
-impl From<Refusal> for Fault {
-    ghost from_gives = { λ e r. r ≡ uncompared e };
-
-    fn from(refusal: Refusal) -> Fault {
-        Fault {
-            refusal,
-            compared: 0,
-            last: None,
-        }
-    }
-}
 
 // What a request answers.
 pub type Answer = Result<Access, Fault>;

@@ -1,15 +1,15 @@
 ghost use Rattle.std.specs.Prelude.{◌≡◌, ◌*◌, length, ◌==◌};
+ghost use Rattle.paging.specs.Numbers.{numbers_of};
 ghost use Rattle.paging.specs.Plan.{storage_bytes};
 ghost use Rattle.unit_state.specs.Registers.{NarrowIds};
 ghost use Rattle.unit_state.specs.State.{with_buffers};
-ghost use Rattle.unit_state.specs.Translation.{fault_of, located, buffers_after, protection_refusal, place_at, translated, translated_state};
+ghost use Rattle.unit_state.specs.Translation.{located, buffers_after, protection_refusal, place_at, translated, translated_state};
 
 use crate::answer::Fault;
 use crate::state::UnitState;
 use crate::translation::{Located, Place};
-use next_page_table::entry::Tag;
-use next_page_table::finding::find_page;
-use next_page_table::walk::SearchFault;
+use page_table::entry::Tag;
+use page_table::finding::find_page;
 use paging::address::{EffectiveAddress, RealAddress, VirtualAddress};
 use paging::form::PageForm;
 use paging::plan::SettledPlan;
@@ -19,19 +19,6 @@ use protection::register::SegmentRegister;
 use refusals::refusal::Refusal;
 use storage::words::ReadStorage;
 use tlb::buffers::Translation;
-
-// The fault of a walk, with its count and its last entry.
-impl From<SearchFault> for Fault {
-    ghost from_gives = { λ e r. r ≡ fault_of e };
-
-    fn from(fault: SearchFault) -> Fault {
-        Fault {
-            refusal: fault.refusal,
-            compared: fault.compared,
-            last: fault.last,
-        }
-    }
-}
 
 // Whether a storage is as long as the plan says.
 pub fn has_size<F: PageForm, S: ReadStorage>(plan: &SettledPlan<F>, storage: &S) -> bool
@@ -66,14 +53,15 @@ fn place_in<F: PageForm>(located: Located, address: VirtualAddress) -> Place
 
 impl UnitState {
     // Finds a virtual page by the look-aside buffers, or else by a walk, which they then keep.
+    #[tactic(auto, unfolding(crate::specs::Translation::located, crate::specs::Translation::buffers_after))]
     fn locate<F: PageForm, S: ReadStorage>(
         &mut self,
         storage: &S,
         plan: &SettledPlan<F>,
         tag: Tag,
     ) -> Result<Located, Fault>
-        ensures answer { result ≡ located F.PageForm.sizes plan.now.exponent (F.PageForm.base plan.now.base) (S.ReadStorage.words storage.now) self.old tag }
-        ensures state { self.new ≡ with_buffers self.old (buffers_after F.PageForm.sizes plan.now.exponent (F.PageForm.base plan.now.base) (S.ReadStorage.words storage.now) self.old tag) }
+        ensures answer { result ≡ located (numbers_of plan.now) (S.ReadStorage.words storage.now) self.old tag }
+        ensures state { self.new ≡ with_buffers self.old (buffers_after (numbers_of plan.now) (S.ReadStorage.words storage.now) self.old tag) }
     {
         if let Some(translation) = self.buffers.look_up(tag) {
             return Ok(Located {
@@ -97,6 +85,8 @@ impl UnitState {
 
     // The real address of a request. It is refused by the first rule that it breaks: the size of the storage, a segment that is
     // present and not barred, a page that the tables have, protection.
+    // What is required of the segments is no ghost field of the state, since marking a page and raising an exception do without.
+    #[tactic(auto, unfolding(crate::specs::Translation::translated, crate::specs::Translation::translated_state))]
     pub fn translate<F: PageForm, S: ReadStorage>(
         &mut self,
         storage: &S,
@@ -105,8 +95,8 @@ impl UnitState {
         access: AccessType,
     ) -> Result<Place, Fault>
         requires { NarrowIds self.old.segments }
-        ensures answer { result ≡ translated F.PageForm.sizes plan.now.exponent (F.PageForm.base plan.now.base) (S.ReadStorage.words storage.now) self.old address.number access }
-        ensures state { self.new ≡ translated_state F.PageForm.sizes plan.now.exponent (F.PageForm.base plan.now.base) (S.ReadStorage.words storage.now) self.old address.number }
+        ensures answer { result ≡ translated (numbers_of plan.now) (S.ReadStorage.words storage.now) self.old address.number access }
+        ensures state { self.new ≡ translated_state (numbers_of plan.now) (S.ReadStorage.words storage.now) self.old address.number }
     {
         if !has_size(plan, storage) {
             return Err(Fault::from(Refusal::SizeDiffers));
@@ -127,21 +117,17 @@ impl UnitState {
             page: virtual_address.page_number::<F>(),
         };
         let located = self.locate(storage, plan, tag)?;
-        let page = located.translation.page;
+        let place = place_in::<F>(located, virtual_address);
         let access_permitted = permits::<F>(
             register,
-            page,
+            located.translation.page,
             self.transaction,
             virtual_address,
             access,
         );
         if !access_permitted {
-            return Err(Fault {
-                refusal: refusal_in(register),
-                compared: located.compared,
-                last: located.last,
-            });
+            return Err(place.refuse(refusal_in(register)));
         }
-        Ok(place_in::<F>(located, virtual_address))
+        Ok(place)
     }
 }

@@ -1,3 +1,4 @@
+use paging::base::BaseNumber;
 use paging::form::{Form2K, Form4K, PageForm};
 use std::process::Abort;
 use std::test::Fail;
@@ -24,13 +25,13 @@ fn numbers_of_both_forms(rt: HostRuntime) {
 
 fn takes_bases<F: PageForm>(rt: &impl Abort, highest: u32, above: u32) -> Result<(), Fail> {
     for number in [0, 1, highest] {
-        match F::base_number(number) {
-            Some(base) => assert_eq!(rt; F::number_of(base), number),
+        match BaseNumber::<F>::new(number) {
+            Some(base) => assert_eq!(rt; base.number(), number),
             None => return Err(Fail::new("a base number that the form allows is refused")),
         }
     }
     for number in [above, 0xffff_ffff] {
-        assert!(rt; F::base_number(number).is_none(), "base {number}");
+        assert!(rt; BaseNumber::<F>::new(number).is_none(), "base {number}");
     }
     Ok(())
 }

@@ -1,18 +1,47 @@
 #![tactic(auto)]
 
-// Tests of the page forms, the plan, the addresses, and of a unit's requests and marks on every board. What each test expects
-// is worked out by hand from the rule that its comment states.
+// Tests of the unit: of page forms, plans and addresses; of requests by real address and of the marks that they leave; of
+// requests by effective address, with what keys and lock bits permit, which exceptions refusals raise, what the look-aside
+// buffers keep, and where the accesses land; and of the twenty trials. What each test expects is worked out by hand from the
+// rule that its comment states; a refusal stands in a table of cases by its number, as the documents cite it.
+//
+// Helpers take the runtime, the form, the unit and the storage one by one: a struct of them would be made at each call and
+// taken apart in each helper. Loops go over the numbers of pages, registers and words, which are what a unit is asked by.
 #[cfg(test)]
 mod addresses;
 #[cfg(test)]
-mod every_board;
+mod buffers;
+#[cfg(test)]
+mod edges;
 #[cfg(test)]
 mod forms;
 #[cfg(test)]
-mod marks;
+mod keys;
+#[cfg(test)]
+mod locks;
+#[cfg(test)]
+mod on_boards;
+#[cfg(test)]
+mod order;
 #[cfg(test)]
 mod plan;
 #[cfg(test)]
-mod requests;
+mod raising;
+#[cfg(test)]
+mod real_marks;
+#[cfg(test)]
+mod real_on_boards;
+#[cfg(test)]
+mod real_requests;
+#[cfg(test)]
+mod registers;
 #[cfg(test)]
 mod support;
+#[cfg(test)]
+mod tables;
+#[cfg(test)]
+mod translated_on_boards;
+#[cfg(test)]
+mod trial_answers;
+#[cfg(test)]
+mod trials_on_boards;

@@ -5,7 +5,7 @@ use std::process::Abort;
 use std::test::Fail;
 
 // Settles a draft and checks the number of the refusal, 0 where it settles. In both cases the draft's numbers have to come
-// back as they were.
+// back as they were; so they are passed one by one, since settling takes the draft.
 fn settles<F: PageForm + Copy>(rt: &impl Abort, form: F, exponent: u32, base: u32, number: u8) {
     let drafted = Draft {
         form,

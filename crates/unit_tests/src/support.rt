@@ -1,13 +1,18 @@
-use mmu::answer::{Access, Fault};
-use mmu::answers::Answer;
-use mmu::state::PageMark;
+use crate::tables::is_2k;
+use lanes::width::Width;
 use mmu::unit::MemoryUnit;
-use paging::address::RealAddress;
+use paging::address::{EffectiveAddress, RealAddress};
 use paging::draft::Draft;
 use paging::form::PageForm;
+use protection::register::SegmentRegister;
 use refusals::refusal::Refusal;
+use std::alloc::Global;
 use std::process::Abort;
 use std::test::Fail;
+use storage::words::{ReadStorage, Storage};
+use unit_state::answer::{Access, Fault};
+use unit_state::answers::Answer;
+use unit_state::state::PageMark;
 
 // The marks that a page can have.
 pub(crate) const UNMARKED: PageMark = PageMark {
@@ -17,12 +22,12 @@ pub(crate) const UNMARKED: PageMark = PageMark {
 
 pub(crate) const LOADED: PageMark = PageMark {
     referenced: true,
-    changed: false,
+    ..UNMARKED
 };
 
 pub(crate) const STORED: PageMark = PageMark {
-    referenced: true,
     changed: true,
+    ..LOADED
 };
 
 // A unit just powered on, from a plan that has to settle.
@@ -42,26 +47,115 @@ pub(crate) fn unit_of<F: PageForm + Copy>(
     }
 }
 
-pub(crate) fn at(number: u32) -> RealAddress {
+pub(crate) const ABSENT: SegmentRegister = SegmentRegister {
+    present: false,
+    barred: false,
+    segment: 0,
+    special: false,
+    key: false,
+};
+
+pub(crate) fn ordinary(segment: u16, key: bool) -> SegmentRegister {
+    SegmentRegister {
+        present: true,
+        segment,
+        key,
+        ..ABSENT
+    }
+}
+
+pub(crate) fn special(segment: u16) -> SegmentRegister {
+    SegmentRegister {
+        special: true,
+        ..ordinary(segment, true)
+    }
+}
+
+pub(crate) fn barred(segment: u16) -> SegmentRegister {
+    SegmentRegister {
+        barred: true,
+        ..ordinary(segment, true)
+    }
+}
+
+pub(crate) fn real_at(number: u32) -> RealAddress {
     RealAddress { number }
 }
 
-// What an accepted request answers that compares no table entry.
-pub(crate) fn accepted(value: u32) -> Answer {
+// The effective address of a place in a virtual page, through a segment register. The place has 11 bits in 2K, 12 in 4K.
+pub(crate) fn at<F: PageForm>(register: u32, page: u32, place: u32) -> EffectiveAddress {
+    let offset = if is_2k::<F>() {
+        page << 11 | place
+    } else {
+        page << 12 | place
+    };
+    EffectiveAddress {
+        number: register << 28 | offset,
+    }
+}
+
+// How many table entries a request compares, and the last of them.
+pub(crate) type Compared = (u16, Option<u16>);
+
+// By real address, on a hit of the look-aside buffers, and before any comparison.
+pub(crate) const NOTHING: Compared = (0, None);
+
+// By a walk that finds the entry at the first place of its chain.
+pub(crate) fn first_is(entry: u16) -> Compared {
+    (1, Some(entry))
+}
+
+pub(crate) fn accepted(value: u32, compared: Compared) -> Answer {
+    let (compared, last) = compared;
     Ok(Access {
         value,
-        compared: 0,
-        last: None,
+        compared,
+        last,
     })
 }
 
-// What a request answers that is refused before any table entry is compared.
-pub(crate) fn refused(refusal: Refusal) -> Answer {
+pub(crate) fn refused(refusal: Refusal, compared: Compared) -> Answer {
+    let (compared, last) = compared;
     Err(Fault {
         refusal,
-        compared: 0,
-        last: None,
+        compared,
+        last,
     })
+}
+
+// What a request does: it loads, or it stores a value. An `Option` of the value would not say that none of it is a load.
+#[derive(Clone, Copy)]
+pub(crate) enum Step {
+    Load,
+    Store(u32),
+}
+
+impl Step {
+    pub(crate) fn by_effective<F: PageForm, S: Storage>(
+        self,
+        unit: &mut MemoryUnit<F>,
+        storage: &mut S,
+        address: EffectiveAddress,
+        width: Width,
+    ) -> Answer {
+        match self {
+            Step::Load => unit.load(storage, address, width),
+            Step::Store(value) => unit.store(storage, address, width, value),
+        }
+    }
+
+    pub(crate) fn by_real<F: PageForm, S: Storage>(
+        self,
+        unit: &mut MemoryUnit<F>,
+        storage: &mut S,
+        address: RealAddress,
+        width: Width,
+    ) -> Answer {
+        match self {
+            Step::Load => unit.load_real(storage, address, width),
+            Step::Store(value) => unit.store_real(storage, address, width, value),
+        }
+    }
 }
 
 // Checks every page of a unit: the listed ones have the marks beside them, all others none.
@@ -70,15 +164,21 @@ pub(crate) fn only_marked<F: PageForm>(
     unit: &MemoryUnit<F>,
     pages: u32,
     listed: &[(u32, PageMark)],
-) -> Result<(), Fail> {
+) {
     for page in 0..pages {
-        let mut mark = UNMARKED;
-        for (listed_page, listed_mark) in listed {
-            if *listed_page == page {
-                mark = *listed_mark;
-            }
-        }
+        let mark = match listed.iter().find(|one| one.0 == page) {
+            Some(one) => one.1,
+            None => UNMARKED,
+        };
         assert_eq!(rt; unit.page_mark(page), Ok(mark), "page {page}");
     }
-    Ok(())
+}
+
+// All words of a storage. By a loop, since a word can be refused and so can room for it.
+pub(crate) fn words_of<S: ReadStorage>(heap: Global, storage: &S) -> Result<Vec<u32>, Fail> {
+    let mut words = Vec::new(heap);
+    for n in 0..storage.count() {
+        words.push(storage.read(n)?)?;
+    }
+    Ok(words)
 }

@@ -1,4 +1,5 @@
 use Rattle.std.proofs.Common.{ap, ◌∙◌, rules}
+use Rattle.paging.specs.Numbers.{numbers_of}
 use Rattle.runs.proofs.Going.{going_more, going_all}
 use Rattle.runs.proofs.running.play.Goals as goal
 
@@ -10,9 +11,6 @@ loop-call-preserved g c =
       c.carry_out-reply.ensures.plan ∙ same,
       c.carry_out-reply.ensures.lenders ∙ c.loop-call.invariant.3,
       going_more
-          g.F.PageForm.sizes
-          _
-          _
           _
           _
           c.args.calls.now
@@ -28,8 +26,7 @@ loop-call-preserved g c =
           _
           _
           c.loop-call.invariant.4
-          (ap (λ plan. plan.exponent) same)
-          (ap (λ plan. g.F.PageForm.base plan.base) same)
+          (ap numbers_of same)
           c.loop-call-test.true
           c.carry_out-reply.ensures.reply
           c.carry_out-reply.ensures.state
@@ -39,5 +36,5 @@ loop-call-preserved g c =
 
 pub returns : goal.returns
 returns g c =
-    let all = going_all _ _ _ _ _ _ _ _ _ _ c.loop-call.invariant.4 c.loop-call-test.false in
+    let all = going_all _ _ _ _ _ _ _ _ c.loop-call.invariant.4 c.loop-call-test.false in
     record { replies = all.replies; state = all.state; words = all.words; plan = c.loop-call.invariant.2; lenders = c.loop-call.invariant.3 }

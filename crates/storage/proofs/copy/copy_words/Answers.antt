@@ -13,12 +13,5 @@ loop-n-preserved g c =
     let word = c.in_ok-word.ensures in
     (c.write.ensures.after ∙ copied_more _ _ _ _ _ c.loop-n.invariant.0 (search rules) (omega arith), search rules)
 
-pub returns : goal.returns
-returns g c =
-    let all = c.loop-n.invariant.0 in
-    record {
-      answer = search rules;
-      after = search rules;
-      alike = copied_alike _ _ _ (search rules);
-      lenders = c.loop-n.invariant.1;
-    }
+pub returns-clause-alike : goal.returns-clause-alike
+returns-clause-alike g c = copied_alike _ _ _ (search rules)

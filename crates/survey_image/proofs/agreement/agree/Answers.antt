@@ -1,6 +1,6 @@
 use Rattle.std.proofs.lemmas.Slice.Eq.{slice_eq-Decides}
+use Rattle.survey_image.proofs.Sameness.{marker-Decides}
 use Rattle.survey_image.proofs.agreement.agree.Goals as goal
-use Rattle.survey_image.proofs.Sameness.{same_marker-Decides}
 
 pub returns : goal.returns
-returns c = slice_eq-Decides same_marker-Decides _ _ _ c.eq.ensures
+returns c = slice_eq-Decides marker-Decides _ _ _ c.eq.ensures

@@ -12,7 +12,7 @@ pub loop-page-preserved : goal.loop-page-preserved
 loop-page-preserved g c =
     let plan = c.args.plan.now in
     let size : 2 ^ plan.exponent ≡ 65536 = sym c.storage_bytes.ensures ∙ c.if-storage_bytes-ne65536.false in (
-      table_more g.F.PageForm.sizes (g.F.PageForm.base plan.base) plan.exponent _ _ _ c.loop-page.page c.table-start.result.start.number c.table_block.result size c.table-start.ensures.start c.loop-page.invariant.0 c.table_block.ensures c.draw.ensures.after,
+      table_more g.F.PageForm.sizes plan.base.number plan.exponent _ _ _ c.loop-page.page c.table-start.result.start.number c.table_block.result size c.table-start.ensures.start c.loop-page.invariant.0 c.table_block.ensures c.draw.ensures.after,
       c.draw.ensures.lenders ∙ c.loop-page.invariant.1,
     )
 
@@ -30,7 +30,7 @@ returns g c =
       answer = sym (cond-true (has_image_size plan.exponent ws) _ _ sized);
       after =
           c.loop-page.invariant.0
-          ∙ ap (table_drawn g.F.PageForm.sizes (g.F.PageForm.base plan.base) ws) (last ∙ c.page_count-page-end.ensures.is)
+          ∙ ap (table_drawn g.F.PageForm.sizes plan.base.number ws) (last ∙ c.page_count-page-end.ensures.is)
           ∙ sym (cond-true (has_image_size plan.exponent ws) _ _ sized);
       lenders = c.loop-page.invariant.1;
     }

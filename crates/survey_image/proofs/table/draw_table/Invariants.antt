@@ -5,5 +5,5 @@ use Rattle.survey_image.proofs.table.draw_table.Given as goal
 abbrev pub invariant-loop-page : goal.invariant-loop-page
 invariant-loop-page g l =
     (g.S.ReadStorage.words l.storage
-    ≡ table_drawn g.F.PageForm.sizes (g.F.PageForm.base l.plan.base) (g.S.ReadStorage.words l.initial.storage) l.page)
+    ≡ table_drawn g.F.PageForm.sizes l.plan.base.number (g.S.ReadStorage.words l.initial.storage) l.page)
     × (g.S.Storage.lenders l.storage ≡ g.S.Storage.lenders l.initial.storage)

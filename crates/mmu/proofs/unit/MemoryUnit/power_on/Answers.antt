@@ -1,7 +1,10 @@
-use Rattle.std.proofs.Common.{rules}
-use Rattle.mmu.specs.Marks.{powered_on}
+use Rattle.unit_state.proofs.Soundness.{powered_on_lem}
+use Rattle.std.proofs.Common.{refl}
 use Rattle.mmu.proofs.unit.MemoryUnit.power_on.Goals as goal
 
 pub returns : goal.returns
-unfolding powered_on
-returns g c = search rules
+returns g c =
+    record {
+      plan = refl;
+      state = powered_on_lem _ _ _ _ c.absent_segments.ensures c.empty.ensures c.none.ensures c.unmarked_pages.ensures;
+    }

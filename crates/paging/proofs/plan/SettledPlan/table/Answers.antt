@@ -6,6 +6,6 @@ pub returns : goal.returns
 returns g c =
     let form = g.met.F.PageForm in
     let plan = c.args.self.now in
-    let inside = table_inside g.F.PageForm.sizes plan.exponent (g.F.PageForm.base plan.base) form.bases (form.low plan.base) in
+    let inside = table_inside g.F.PageForm.sizes plan.exponent plan.base.number form.bases plan.base.low in
     let most : 2 ^ plan.exponent ≤ 16777216 = pow_mono {i = plan.exponent} {j = 24} plan.small in
     search rules

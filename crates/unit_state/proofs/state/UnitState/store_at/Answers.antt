@@ -8,4 +8,4 @@ use_page-requires g c =
     let form = g.met.F.PageForm in
     let plan = c.args.plan.now in
     let pages = pages_bounded g.F.PageForm.sizes plan.exponent form.wide form.whole plan.large plan.small in
-    omega (arith, translated_near _ _ _ _ _ _ _ _ pages.1 c.requires.near (sym c.translate.ensures.answer ∙ c.in_ok-place.was))
+    omega (arith, translated_near _ _ _ _ _ _ pages.1 c.requires.near (sym c.translate.ensures.answer ∙ c.in_ok-place.was))

@@ -1,0 +1,8 @@
+use Rattle.std.proofs.Common.{sym, subst}
+use Rattle.unit_state.specs.Sound.{Sound}
+use Rattle.unit_state.proofs.Soundness.{sound_used}
+use Rattle.mmu.proofs.unit.MemoryUnit.load_real.Goals as goal
+
+pub invariant_of-self : goal.invariant_of-self
+invariant_of-self g c =
+    record { sound = subst Sound (sym c.use_page.ensures) (sound_used _ _ _ c.args.self.now.sound) }

@@ -1,0 +1,45 @@
+use Rattle.std.proofs.Common.{◌≡◌, sym, subst, arith, rules}
+use Rattle.paging.specs.Numbers.{numbers_of}
+use Rattle.paging.proofs.Pages.{pages_bounded}
+use Rattle.unit_state.specs.declared.state.UnitState.{UnitState}
+use Rattle.unit_state.specs.Answers.{Answer}
+use Rattle.unit_state.specs.Requests.{store_answer, after_store}
+use Rattle.unit_state.specs.Laws.{StoreLaws}
+use Rattle.unit_state.proofs.RequestLaws.{store_laws}
+use Rattle.protection.specs.declared.access_type.AccessType.TheVariants.{Store}
+use Rattle.unit_state.specs.Sound.{Sound}
+use Rattle.unit_state.proofs.Locating.{sound_stored, sound_noted}
+use Rattle.mmu.proofs.unit.MemoryUnit.store.Goals as goal
+
+pub returns-clause-laws : goal.returns-clause-laws
+unfolding store_answer after_store
+returns-clause-laws g c =
+    let form = g.met.F.PageForm in
+    let unit = c.args.self.now in
+    let plan = numbers_of unit.plan in
+    let s = unit.state in
+    let w = c.args.width in
+    let address = c.args.address in
+    let value = c.args.value in
+    let ws = g.S.ReadStorage.words c.args.storage.now in
+    let vs = g.S.ReadStorage.words c.store_at-answer.new.storage in
+    let pages = pages_bounded plan.form plan.exponent form.wide form.whole unit.plan.large unit.plan.small in
+    let answer : c.store_at-answer.result ≡ store_answer plan ws s w address value = search rules in
+    let state : c.note.new.self ≡ after_store plan ws s w address value = search rules in
+    let P : Answer → Type 0 = λ r. StoreLaws plan ws vs s w address value r (after_store plan ws s w address value) in
+    let Q : UnitState → Type 0 = λ after. StoreLaws plan ws vs s w address value c.store_at-answer.result after in
+    λ agrees.
+    subst Q (sym state) (subst P (sym answer) (store_laws plan ws vs s w address value (record { wide = form.wide; whole = form.whole; large = unit.plan.large }) (omega (arith, pages.0)) agrees))
+
+pub invariant_of-self : goal.invariant_of-self
+invariant_of-self g c =
+    let unit = c.args.self.now in
+    let plan = unit.plan in
+    let form = g.met.F.PageForm in
+    let sizes = g.F.PageForm.sizes in
+    let words = g.S.ReadStorage.words c.args.storage.now in
+    let pages = pages_bounded sizes plan.exponent form.wide form.whole plan.large plan.small in
+    let used : Sound c.store_at-answer.new.self =
+    subst Sound (sym c.store_at-answer.ensures.state) (sound_stored (numbers_of plan) words unit.state c.args.width c.args.address c.args.value pages.1 unit.sound)
+    in
+    record { sound = subst Sound (sym c.note.ensures) (sound_noted c.store_at-answer.new.self c.store_at-answer.result c.args.address Store used) }

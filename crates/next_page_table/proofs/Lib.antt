@@ -1,6 +1,0 @@
-pub mod Tags
-mod Ways
-mod Turns
-pub mod Walks
-pub mod Alike
-mod Listing

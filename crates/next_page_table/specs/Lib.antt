@@ -1,3 +1,0 @@
-pub mod Entry
-pub mod Search
-pub mod Laws

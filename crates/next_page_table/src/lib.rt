@@ -1,8 +1,0 @@
-#![tactic(auto)]
-
-pub mod decode;
-pub mod entry;
-pub mod finding;
-pub mod pairs;
-pub mod trace;
-pub mod walk;

@@ -1,6 +1,0 @@
-use Rattle.std.proofs.Common.{vec_items}
-use Rattle.next_survey.specs.Check.{AllMarks}
-use Rattle.next_survey.proofs.check.page_marks.Given as goal
-
-abbrev pub invariant-loop-page : goal.invariant-loop-page
-invariant-loop-page g l = AllMarks l.page l.unit.state (vec_items l.marks)

@@ -1,6 +1,0 @@
-use Rattle.std.proofs.Common.{vec_items}
-use Rattle.next_survey.specs.Readings.{AllSpelled}
-use Rattle.next_survey.proofs.readings.markers_in.Given as goal
-
-abbrev pub invariant-loop-j : goal.invariant-loop-j
-invariant-loop-j l = AllSpelled l.replies l.j (vec_items l.markers)

@@ -1,0 +1,61 @@
+ghost use Rattle.std.specs.Prelude.{◌≡◌, IfOk};
+ghost use Rattle.runs.specs.Fold.{replies_from, state_from};
+ghost use Rattle.survey.specs.Check.{prepared, Checked};
+
+use crate::board_check::BoardCheck;
+use crate::findings::Findings;
+use crate::page_marks::page_marks;
+use crate::trouble::Trouble;
+use mmu::unit::MemoryUnit;
+use paging::draft::Draft;
+use paging::form::PageForm;
+use protection::register::SegmentRegister;
+use runs::call::{Call, Reply};
+use runs::running::run;
+use std::alloc::Global;
+use storage::words::{ReadStorage, Storage};
+
+// Two registers for one segment: pages with key 01 can be read and written through the first, and only read through the second.
+const READ_WRITE: SegmentRegister = SegmentRegister {
+    present: true,
+    barred: false,
+    segment: 5,
+    special: false,
+    key: false,
+};
+
+const READ_ONLY: SegmentRegister = SegmentRegister {
+    present: true,
+    barred: false,
+    segment: 5,
+    special: false,
+    key: true,
+};
+
+// Calls, carried out by a unit whose registers 1 and 2 are for one segment.
+#[derive(Clone, Copy)]
+pub struct CallCheck<'a> {
+    pub calls: &'a [Call],
+}
+
+impl<'a> BoardCheck for CallCheck<'a> {
+    type Item = Reply;
+
+    ghost Found = { λ plan ws check replies. replies ≡ replies_from plan ws prepared check.calls.now };
+
+    ghost left = { λ plan ws check. state_from plan ws prepared check.calls.now };
+
+    fn check_storage<F: PageForm + Drop, S: Storage>(
+        &self,
+        heap: Global,
+        draft: Draft<F>,
+        storage: &mut S,
+    ) -> Result<(Findings<Reply>, Draft<F>), Trouble> {
+        let mut unit = MemoryUnit::power_on(draft.settle()?);
+        unit.write_segment(1, READ_WRITE)?;
+        unit.write_segment(2, READ_ONLY)?;
+        let found = run(heap, &mut unit, storage, self.calls)?;
+        let pages = page_marks(heap, &unit)?;
+        Ok((Findings { found, pages }, unit.end()))
+    }
+}

@@ -1,0 +1,6 @@
+#![tactic(auto)]
+
+pub mod comparison;
+pub mod lines;
+pub mod page_map;
+pub mod plans;

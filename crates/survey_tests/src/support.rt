@@ -1,0 +1,40 @@
+use boards::ram::RamBoard;
+use paging::draft::Draft;
+use std::alloc::Global;
+use std::process::Abort;
+use std::test::Fail;
+use survey::on_boards::IMAGE_BYTES;
+use survey_image::drawing::draw_all;
+use survey_image::marker::Marker;
+use survey_image::sites::SITES;
+
+// The plan of an image: 2^16 bytes, and a page table from base number 2 on.
+pub(crate) fn draft_of<F>(form: F) -> Draft<F> {
+    Draft {
+        form,
+        exponent: 16,
+        base: 2,
+    }
+}
+
+// An image with the twelve markers.
+pub(crate) fn drawn_image(heap: Global) -> Result<Vec<u8>, Fail> {
+    let mut image = vec![in heap; 0u8; IMAGE_BYTES]?;
+    draw_all(&mut RamBoard::new(&mut image), &SITES)?;
+    Ok(image)
+}
+
+// The markers are those of the sites, in their order. The first is CHAPEL at 348211725, 543188640 and the last HOHBERG at
+// 348505268, 543055514, in centimetres.
+pub(crate) fn are_the_drawn(rt: &impl Abort, markers: &[Marker]) {
+    assert_eq!(rt; markers.len(), 12);
+    assert!(rt; markers[0].name == *b"CHAPEL  ");
+    assert_eq!(rt; markers[0].easting, 348_211_725);
+    assert_eq!(rt; markers[0].northing, 543_188_640);
+    assert!(rt; markers[11].name == *b"HOHBERG ");
+    assert_eq!(rt; markers[11].easting, 348_505_268);
+    assert_eq!(rt; markers[11].northing, 543_055_514);
+    for (site, marker) in SITES.iter().zip(markers) {
+        assert!(rt; site.marker == *marker);
+    }
+}
