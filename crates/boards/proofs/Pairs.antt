@@ -1,30 +1,10 @@
--- What the two storages of a pair answer, and what a write to one of them leaves of the pair.
+-- What a write to one of the two storages of a pair leaves of the pair.
 use Rattle.std.proofs.Common.{◌≡◌, ℕ, ◌-◌, ◌/◌, ◌%◌, ◌<◌, ◌≤◌, ◌≢◌, List, length, arith}
 use Rattle.std.proofs.lemmas.Bool.Decides.{nat_tests}
-use Rattle.storage.specs.Words.{read_of, written}
+use Rattle.storage.specs.Words.{written}
 use Rattle.boards.specs.Interleaved.{interleaved_count, interleaved_at, interleaved}
 use Rattle.boards.specs.Stacked.{stacked_count, stacked_at, stacked}
-use Rattle.storage.proofs.Tabulated.{length-tabulated, tabulated_at, tabulated-written, length-written, written_at}
-
-pub even_read :
-    (xs ys : List ℕ) (n : ℕ) →
-    n < length (interleaved xs ys) →
-    n % 2 ≡ 0 →
-    read_of xs (n / 2) ≡ read_of (interleaved xs ys) n
-even_read xs ys n h even =
-    let l = length-tabulated (interleaved_count xs ys) (interleaved_at xs ys) in
-    let i = tabulated_at (interleaved_count xs ys) (interleaved_at xs ys) n in
-    grind (arith, nat_tests)
-
-pub odd_read :
-    (xs ys : List ℕ) (n : ℕ) →
-    n < length (interleaved xs ys) →
-    n % 2 ≢ 0 →
-    read_of ys (n / 2) ≡ read_of (interleaved xs ys) n
-odd_read xs ys n h odd =
-    let l = length-tabulated (interleaved_count xs ys) (interleaved_at xs ys) in
-    let i = tabulated_at (interleaved_count xs ys) (interleaved_at xs ys) n in
-    grind (arith, nat_tests)
+use Rattle.storage.proofs.Tabulated.{tabulated-written, length-written, written_at}
 
 pub even_written :
     (xs ys : List ℕ) (n value mask : ℕ) →
@@ -57,26 +37,6 @@ odd_written xs ys n value mask odd =
     mask
     (simp length-written)
     (λ k kc. let w = written_at ys (n / 2) value mask (k / 2) in grind (arith, nat_tests))
-
-pub low_read :
-    (xs ys : List ℕ) (n : ℕ) →
-    n < length (stacked xs ys) →
-    n < length xs →
-    read_of xs n ≡ read_of (stacked xs ys) n
-low_read xs ys n h low =
-    let l = length-tabulated (stacked_count xs ys) (stacked_at xs ys) in
-    let i = tabulated_at (stacked_count xs ys) (stacked_at xs ys) n in
-    grind (arith, nat_tests)
-
-pub high_read :
-    (xs ys : List ℕ) (n : ℕ) →
-    n < length (stacked xs ys) →
-    length xs ≤ n →
-    read_of ys (n - length xs) ≡ read_of (stacked xs ys) n
-high_read xs ys n h high =
-    let l = length-tabulated (stacked_count xs ys) (stacked_at xs ys) in
-    let i = tabulated_at (stacked_count xs ys) (stacked_at xs ys) n in
-    grind (arith, nat_tests)
 
 pub low_written :
     (xs ys : List ℕ) (n value mask : ℕ) →

@@ -1,3 +1,5 @@
+#![tactic(auto, using(storage::proofs::Tabulated::tables, crate::proofs::Pairs::even_written, crate::proofs::Pairs::odd_written))]
+
 ghost use Rattle.std.specs.Prelude.{◌≡◌};
 ghost use Rattle.boards.specs.Interleaved.{interleaved, interleaved_bounded};
 ghost use Rattle.storage.specs.Lent.{both};

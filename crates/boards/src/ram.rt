@@ -1,3 +1,5 @@
+#![tactic(auto, using(storage::proofs::Tabulated::tables, crate::proofs::Stores::ram_written))]
+
 ghost use Rattle.std.specs.Prelude.{◌≡◌};
 ghost use Rattle.storage.specs.Words.{write_of, written};
 ghost use Rattle.boards.specs.Ram.{ram_count, ram_words, ram_bytes, ram_bounded};
@@ -28,6 +30,8 @@ impl<'a> RamBoard<'a> {
     }
 }
 
+// A dump board reads and writes alike, but is no one function with this board: a dump's word may lie in a page that is not
+// there or away from its own place, and where a word lies is what the boards differ in.
 impl<'a> ReadStorage for RamBoard<'a> {
     ghost words = { λ s. ram_words s.bytes.now };
 

@@ -1,3 +1,5 @@
+#![tactic(auto, using(storage::proofs::Tabulated::tables, crate::proofs::Pairs::low_written, crate::proofs::Pairs::high_written))]
+
 ghost use Rattle.std.specs.Prelude.{◌≡◌};
 ghost use Rattle.boards.specs.Stacked.{stacked, stacked_bounded};
 ghost use Rattle.storage.specs.Lent.{both};

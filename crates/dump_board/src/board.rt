@@ -19,6 +19,7 @@ pub struct DumpBoard<'a> {
 
 impl<'a> DumpBoard<'a> {
     // A board that has no words until its directory is filled.
+    #[tactic(auto, using(crate::proofs::Dumps::no_pages_no_words))]
     pub fn new(bytes: &'a mut [u8]) -> DumpBoard<'a>
         ensures bytes { result.bytes.now ≡ bytes.old }
         ensures empty { listed_words result.bytes.now result.directory ≡ [] }
@@ -30,6 +31,7 @@ impl<'a> DumpBoard<'a> {
     }
 
     // Takes a list of the page that each block holds as the directory. The old one stays where the list is none.
+    #[tactic(auto, using(crate::proofs::Dumps::filled_words))]
     pub fn fill(&mut self, pages: &[u16]) -> Result<(), Refusal>
         ensures answer { MatchResult result (λ _. IsDirectory pages.now) (λ e. (e ≡ NotADirectory) × (IsDirectory pages.now → ⊥)) }
         ensures after { MatchResult result (λ _. listed_words self.new.bytes.now self.new.directory ≡ dumped self.old.bytes.now pages.now) (λ _. self.new ≡ self.old) }
@@ -61,6 +63,7 @@ impl<'a> DumpBoard<'a> {
     }
 }
 
+#[tactic(auto, using(storage::proofs::Tabulated::tables))]
 impl<'a> ReadStorage for DumpBoard<'a> {
     ghost words = { λ s. listed_words s.bytes.now s.directory };
 
@@ -78,6 +81,7 @@ impl<'a> ReadStorage for DumpBoard<'a> {
     }
 }
 
+#[tactic(auto, using(storage::proofs::Tabulated::tables, crate::proofs::Dumps::dump_written))]
 impl<'a> Storage for DumpBoard<'a> {
     ghost lenders = { λ s. one s.bytes.ghost_name };
 

@@ -61,6 +61,7 @@ impl Directory {
     }
 
     // The directory that lists for each block the page that it holds.
+    #[tactic(auto, using(crate::proofs::Directories::unlisted, crate::proofs::Directories::all_lists))]
     pub fn new(pages: &[u16]) -> Result<Directory, Refusal>
         ensures { MatchResult result (λ d. Lists pages.now d.count d.blocks) (λ e. (e ≡ NotADirectory) × (IsDirectory pages.now → ⊥)) }
     {

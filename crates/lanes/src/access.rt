@@ -54,6 +54,7 @@ impl Width {
     }
 
     // A value at the place of its word that the unit at an address has.
+    #[tactic(auto, using(crate::proofs::Places::placed_whole))]
     fn place(self, address: u32, value: u32) -> u32
         requires { value < value_limit self }
         ensures { result ≡ value * 2 ^ shift_of self address }
@@ -63,6 +64,7 @@ impl Width {
 }
 
 // Loads from the word that the address lies in.
+#[tactic(auto, using(crate::proofs::Octets::loaded_bytes))]
 pub fn load_unit<S: ReadStorage>(storage: &S, address: u32, width: Width) -> Result<u32, Refusal>
     ensures answer { result ≡ load_of (S.ReadStorage.words storage.now) width address }
     ensures bytes { IfOk result (λ v. LoadedBytes (S.ReadStorage.words storage.now) width address v) }
@@ -72,6 +74,7 @@ pub fn load_unit<S: ReadStorage>(storage: &S, address: u32, width: Width) -> Res
 }
 
 // Stores a value in the word that the address lies in, unless the value is too wide for its width.
+#[tactic(auto, using(crate::proofs::Octets::stored_bytes))]
 pub fn store_unit<S: Storage>(
     storage: &mut S,
     address: u32,

@@ -200,8 +200,8 @@ pub fn show_damage<F: PageForm>(
         }
         Err(fault) => {
             let refusal = fault.refusal;
-            let count = fault.compared;
-            match fault.last {
+            let count = fault.compared.count;
+            match fault.compared.last {
                 Some(entry) => println!(rt;
                     "  {what}: {refusal}; {count} compared, the last is entry {entry}"
                 )?,

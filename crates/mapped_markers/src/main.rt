@@ -37,12 +37,12 @@ fn show_reply(rt: &HostRuntime, what: &str, reply: Reply) -> anyhow::Result<()> 
     match reply {
         Reply::Request(Ok(access)) => {
             let value = access.value;
-            let count = access.compared;
+            let count = access.compared.count;
             println!(rt; "  {what}: accepted, value {value}, {count} compared")?;
         }
         Reply::Request(Err(fault)) => {
             let refusal = fault.refusal;
-            let count = fault.compared;
+            let count = fault.compared.count;
             println!(rt; "  {what}: {refusal}; {count} compared")?;
         }
         Reply::Exceptions(exceptions) => {

@@ -10,10 +10,12 @@ use lanes::access::{load_unit, store_unit};
 use lanes::width::Width;
 use paging::address::RealAddress;
 use paging::form::PageForm;
+use protection::access_type::AccessType;
 use refusals::refusal::Refusal;
 use storage::words::{ReadStorage, Storage};
 use unit_state::answer::{Access, Fault};
 use unit_state::answers::Answer;
+use unit_state::translate::has_size;
 
 impl<F: PageForm> MemoryUnit<F> {
     // The real page of an address. The storage has to be as long as the plan says, and the address in it.
@@ -21,11 +23,10 @@ impl<F: PageForm> MemoryUnit<F> {
         ensures is { result ≡ passed (load_refusal (numbers_of self.now.plan) (S.ReadStorage.words storage.now) address.number) (page_of F.PageForm.sizes address.number) }
         ensures low { IfOk result (λ page. page < 8192) }
     {
-        let bytes = self.plan.storage_bytes();
-        if 4 * storage.count() != bytes {
+        if !has_size(&self.plan, storage) {
             return Err(Refusal::SizeDiffers);
         }
-        if address.number >= bytes {
+        if address.number >= self.plan.storage_bytes() {
             return Err(Refusal::RealAddressOutside);
         }
         Ok(address.page::<F>())
@@ -45,12 +46,8 @@ impl<F: PageForm> MemoryUnit<F> {
     {
         let page = self.real_page(storage, address)?;
         let value = load_unit(storage, address.number, width)?;
-        self.state.use_page(page, false);
-        Ok(Access {
-            value,
-            compared: 0,
-            last: None,
-        })
+        self.state.use_page(page, AccessType::Load);
+        Ok(Access::uncompared(value))
     }
 
     // Stores by real address.
@@ -73,11 +70,7 @@ impl<F: PageForm> MemoryUnit<F> {
         }
         let page = self.real_page(storage, address)?;
         store_unit(storage, address.number, width, value)?;
-        self.state.use_page(page, true);
-        Ok(Access {
-            value: 0,
-            compared: 0,
-            last: None,
-        })
+        self.state.use_page(page, AccessType::Store);
+        Ok(Access::uncompared(0))
     }
 }

@@ -16,6 +16,7 @@ use unit_state::answers::Answer;
 
 impl<F: PageForm> MemoryUnit<F> {
     // Loads by effective address.
+    #[tactic(auto, unfolding(unit_state::specs::Requests::load_answer, unit_state::specs::Requests::after_load))]
     pub fn load<S: ReadStorage>(
         &mut self,
         storage: &S,

@@ -94,10 +94,10 @@ abbrev WalkedFrom : PageGeometry → List ℕ → Query → ℕ → ℕ → Opti
 WalkedFrom f ws q i n last (Ok x) =
     (m : ℕ) × (x.compared ≡ n + (m + 1)) × (x.entry ≡ along ws q i m) × Passed f ws q i m
 WalkedFrom f ws q i n last (Err e) =
-    ((e.compared ≡ n) × (e.last ≡ last))
+    ((e.compared.count ≡ n) × (e.compared.last ≡ last))
     ⊎ ((m : ℕ)
-    × (e.compared ≡ n + (m + 1))
-    × (e.last ≡ Some (along ws q i m))
+    × (e.compared.count ≡ n + (m + 1))
+    × (e.compared.last ≡ Some (along ws q i m))
     × Passed f ws q i m
     × (equal_at f ws q (along ws q i m) ≡ true → e.refusal ≡ WordOutside))
 

@@ -46,12 +46,12 @@ pub record FoundWell (f : PageGeometry) (ws : List ℕ) (q : Query) (x : Found) 
 
 abbrev pub Well : PageGeometry → List ℕ → Query → Outcome → Type 0
 Well f ws q (Ok x) = FoundWell f ws q x
-Well f ws q (Err e) = e.compared ≤ q.limit
+Well f ws q (Err e) = e.compared.count ≤ q.limit
 
 -- The link of what is found is that of its entry.
 abbrev pub LinkedWell : PageGeometry → List ℕ → Query → LinkedOutcome → Type 0
 LinkedWell f ws q (Ok x) = FoundWell f ws q x.found × (x.link ≡ link_at ws q x.found.entry)
-LinkedWell f ws q (Err e) = e.compared ≤ q.limit
+LinkedWell f ws q (Err e) = e.compared.count ≤ q.limit
 
 -- the outcome without the link
 abbrev pub unlinked : LinkedOutcome → Outcome
@@ -71,8 +71,8 @@ pub record FoundLast (f : PageGeometry) (ws : List ℕ) (q : Query) (x : Found) 
 
 -- Where nothing is found, the last of the m + 1 entries that were compared differs too, unless its words end the storage.
 pub record StoppedAt (f : PageGeometry) (ws : List ℕ) (q : Query) (e : Fault) (m : ℕ) : Type 0 where
-  pub count : e.compared ≡ m + 1
-  pub last : e.last ≡ Some (chain_at ws q m)
+  pub count : e.compared.count ≡ m + 1
+  pub last : e.compared.last ≡ Some (chain_at ws q m)
   pub passed : Passed f ws q (first_of ws q) m
   pub differs : equal_at f ws q (chain_at ws q m) ≡ true → e.refusal ≡ WordOutside
 
@@ -80,7 +80,7 @@ pub record StoppedAt (f : PageGeometry) (ws : List ℕ) (q : Query) (e : Fault) 
 -- them: absent where none was compared.
 abbrev pub Walked : PageGeometry → List ℕ → Query → Outcome → Type 0
 Walked f ws q (Ok x) = (m : ℕ) × FoundLast f ws q x m
-Walked f ws q (Err e) = ((e.compared ≡ 0) × (e.last ≡ None)) ⊎ ((m : ℕ) × StoppedAt f ws q e m)
+Walked f ws q (Err e) = ((e.compared.count ≡ 0) × (e.compared.last ≡ None)) ⊎ ((m : ℕ) × StoppedAt f ws q e m)
 
 -- Searches for two virtual pages do not find one entry: a real page never answers to two virtual pages.
 abbrev pub Apart : Tag → Tag → Outcome → Outcome → Type 0
@@ -97,7 +97,7 @@ pub record AlikeTables (q : Query) (ws vs : List ℕ) : Type 0 where
 -- how many entries a walk compared
 abbrev pub compared_by : Outcome → ℕ
 compared_by (Ok x) = x.compared
-compared_by (Err e) = e.compared
+compared_by (Err e) = e.compared.count
 
 -- the first n entries of the virtual page's chain
 abbrev pub Listed : List ℕ → Query → ℕ → List ℕ → Type 0

@@ -15,6 +15,7 @@ use Rattle.page_table.specs.declared.walk.Query.{Query}
 use Rattle.page_table.specs.declared.walk.Found.{Found}
 use Rattle.page_table.specs.declared.walk.Linked.{Linked}
 use Rattle.page_table.specs.declared.walk.Fault.{Fault}
+use Rattle.page_table.specs.declared.walk.Compared.{Compared}
 use Rattle.page_table.specs.Entry.{tag_of, anchor_of, link_of, entry_of}
 
 abbrev pub Outcome : Type 0
@@ -29,11 +30,15 @@ Turn E = Result (ControlFlow E ℕ) Fault
 
 -- a refusal after n comparisons, of which the last was that of `last`
 abbrev pub fails : {E : Type 0} → Refusal → ℕ → Option ℕ → Result E Fault
-fails r n last = Err (record { refusal = r; compared = n; last = last })
+fails r n last = Err (record { refusal = r; compared = record { count = n; last = last } })
+
+-- what was compared, with one entry more
+abbrev pub with_entry : Compared → ℕ → Compared
+with_entry c i = record { count = c.count + 1; last = Some i }
 
 -- a refusal before any entry is compared
 abbrev pub uncompared : Refusal → Fault
-uncompared r = record { refusal = r; compared = 0; last = None }
+uncompared r = record { refusal = r; compared = record { count = 0; last = None } }
 
 -- what comes of a word that is read, or refused
 abbrev pub read_then : {X : Type 0} → Result ℕ Refusal → (Refusal → X) → (ℕ → X) → X

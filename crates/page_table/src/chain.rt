@@ -6,7 +6,7 @@ ghost use Rattle.page_table.specs.Search.{Turn, Going, word_of, followed, chain,
 use crate::asked::Asked;
 use crate::decode::anchor_of;
 use crate::entry::Link;
-use crate::walk::{Fault, Turn};
+use crate::walk::{Compared, Fault, Turn};
 use paging::form::PageForm;
 use refusals::refusal::Refusal;
 use std::ops::ControlFlow;
@@ -19,43 +19,39 @@ pub(crate) trait Hit {
 
     ghost turned: { PageGeometry → List ℕ → Query → ℕ → ℕ → Option ℕ → Turn Self };
 
-    // Compares the entry at a place of the table, after so many others, of which the last is given.
+    // Compares the entry at a place of the table, after others.
     fn turn<F: PageForm, S: ReadStorage>(
         asked: Asked,
         storage: &S,
         at: u16,
-        before: u16,
-        last: Option<u16>,
+        before: Compared,
     ) -> Turn<Self>
-        requires { before < 8192 }
-        ensures is { result ≡ turned F.PageForm.sizes (S.ReadStorage.words storage.now) asked.query at before last }
-        ensures going { Going asked.query (before + 1) result };
+        requires { before.count < 8192 }
+        ensures is { result ≡ turned F.PageForm.sizes (S.ReadStorage.words storage.now) asked.query at before.count before.last }
+        ensures going { Going asked.query (before.count + 1) result };
 }
 
-// A word of a storage, read after so many comparisons, of which the last is given.
+// A word of a storage, read after the comparisons that are given.
 pub(crate) fn word_of<S: ReadStorage>(
     storage: &S,
     place: u32,
-    compared: u16,
-    last: Option<u16>,
+    compared: Compared,
 ) -> Result<u32, Fault>
-    ensures { result ≡ word_of (S.ReadStorage.words storage.now) place compared last }
+    ensures { result ≡ word_of (S.ReadStorage.words storage.now) place compared.count compared.last }
 {
-    storage.read(place).map_err(|refusal| Fault {
-        refusal,
-        compared,
-        last,
-    })
+    storage
+        .read(place)
+        .map_err(|refusal| Fault { refusal, compared })
 }
 
-// Behind an entry that differs.
-pub(crate) fn follow<E>(asked: Asked, at: u16, compared: u16, link: Link) -> Turn<E>
-    ensures is { result ≡ followed asked.query at compared link }
-    ensures going { Going asked.query compared result }
+// Behind an entry that was compared as the one of that count, and differs.
+pub(crate) fn follow<E>(asked: Asked, at: u16, count: u16, link: Link) -> Turn<E>
+    ensures is { result ≡ followed asked.query at count link }
+    ensures going { Going asked.query count result }
 {
     let refusal = if link.last {
         Refusal::PageFault
-    } else if u32::from(compared) == asked.query.limit {
+    } else if u32::from(count) == asked.query.limit {
         asked.query.stop
     } else if u32::from(link.next) < asked.query.entries {
         return Ok(ControlFlow::Continue(link.next));
@@ -64,8 +60,10 @@ pub(crate) fn follow<E>(asked: Asked, at: u16, compared: u16, link: Link) -> Tur
     };
     Err(Fault {
         refusal,
-        compared,
-        last: Some(at),
+        compared: Compared {
+            count,
+            last: Some(at),
+        },
     })
 }
 
@@ -78,16 +76,14 @@ fn walk<H: Hit, F: PageForm, S: ReadStorage>(
     ensures { result ≡ chain H.Hit.reached (H.Hit.turned F.PageForm.sizes (S.ReadStorage.words storage.now) asked.query) asked.query asked.query.limit first 0 None }
 {
     let mut at = first;
-    let mut compared: u16 = 0;
-    let mut last: Option<u16> = None;
+    let mut compared = Compared::default();
     // A `for` over the counts would need an end behind it that no walk comes to: the turn at the limit ends each.
     'follow: loop {
-        match H::turn::<F, S>(asked, storage, at, compared, last)? {
+        match H::turn::<F, S>(asked, storage, at, compared)? {
             ControlFlow::Break(found) => return Ok(found),
             ControlFlow::Continue(next) => {
-                last = Some(at);
+                compared = compared.with(at);
                 at = next;
-                compared += 1;
             }
         }
     }
@@ -100,8 +96,7 @@ impl From<Refusal> for Fault {
     fn from(refusal: Refusal) -> Fault {
         Fault {
             refusal,
-            compared: 0,
-            last: None,
+            compared: Compared::default(),
         }
     }
 }

@@ -7,7 +7,7 @@ use crate::asked::Asked;
 use crate::chain::{Hit, find_entry, follow, word_of};
 use crate::decode::{entry_of, link_of, tag_of};
 use crate::entry::Tag;
-use crate::walk::{Fault, Found, Turn};
+use crate::walk::{Compared, Fault, Found, Turn};
 use paging::form::PageForm;
 use paging::plan::SettledPlan;
 use std::ops::ControlFlow;
@@ -30,27 +30,27 @@ impl Hit for Found {
         asked: Asked,
         storage: &S,
         at: u16,
-        before: u16,
-        last: Option<u16>,
+        before: Compared,
     ) -> Turn<Found> {
         let place = asked.place(at);
-        let word0 = word_of(storage, place, before, last)?;
-        let compared = before + 1;
+        let word0 = word_of(storage, place, before)?;
+        let compared = before.with(at);
         if same_tag(tag_of::<F>(word0), asked.query.tag) {
-            let word2 = word_of(storage, place + 2, compared, Some(at))?;
+            let word2 = word_of(storage, place + 2, compared)?;
             Ok(ControlFlow::Break(Found {
                 entry: at,
                 page: entry_of::<F>(word0, word2),
-                compared,
+                compared: compared.count,
             }))
         } else {
-            let word1 = word_of(storage, place + 1, compared, Some(at))?;
-            follow(asked, at, compared, link_of(word1))
+            let word1 = word_of(storage, place + 1, compared)?;
+            follow(asked, at, compared.count, link_of(word1))
         }
     }
 }
 
 // Searches the page table of a plan for a virtual page.
+#[tactic(auto, using(crate::proofs::Walks::searched_well, crate::proofs::Walks::searched_walked))]
 pub fn find_page<F: PageForm, S: ReadStorage>(
     storage: &S,
     plan: &SettledPlan<F>,

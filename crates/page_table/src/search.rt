@@ -8,7 +8,7 @@ use crate::chain::{Hit, find_entry, follow, word_of};
 use crate::decode::{entry_of, link_of, tag_of};
 use crate::entry::Tag;
 use crate::finding::same_tag;
-use crate::walk::{Fault, Found, Linked, Turn};
+use crate::walk::{Compared, Fault, Found, Linked, Turn};
 use paging::form::PageForm;
 use paging::plan::SettledPlan;
 use std::ops::ControlFlow;
@@ -25,28 +25,32 @@ impl Hit for Linked {
         asked: Asked,
         storage: &S,
         at: u16,
-        before: u16,
-        _last: Option<u16>,
+        before: Compared,
     ) -> Turn<Linked> {
         let place = asked.place(at);
-        let word0 = word_of(storage, place, before, Some(at))?;
-        let word1 = word_of(storage, place + 1, before, Some(at))?;
+        let reached = Compared {
+            count: before.count,
+            last: Some(at),
+        };
+        let word0 = word_of(storage, place, reached)?;
+        let word1 = word_of(storage, place + 1, reached)?;
         let link = link_of(word1);
         if same_tag(tag_of::<F>(word0), asked.query.tag) {
-            let word2 = word_of(storage, place + 2, before, Some(at))?;
+            let word2 = word_of(storage, place + 2, reached)?;
             let found = Found {
                 entry: at,
                 page: entry_of::<F>(word0, word2),
-                compared: before + 1,
+                compared: before.count + 1,
             };
             Ok(ControlFlow::Break(Linked { found, link }))
         } else {
-            follow(asked, at, before + 1, link)
+            follow(asked, at, before.count + 1, link)
         }
     }
 }
 
 // Searches the page table of a plan for a virtual page.
+#[tactic(auto, using(crate::proofs::Walks::linked_well))]
 pub fn search<F: PageForm, S: ReadStorage>(
     storage: &S,
     plan: &SettledPlan<F>,

@@ -20,7 +20,7 @@ fn compared_by(outcome: Result<Found, Fault>) -> u16
 {
     match outcome {
         Ok(found) => found.compared,
-        Err(fault) => fault.compared,
+        Err(fault) => fault.compared.count,
     }
 }
 

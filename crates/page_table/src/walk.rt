@@ -1,3 +1,6 @@
+ghost use Rattle.std.specs.Prelude.{◌≡◌, ◌<◌};
+ghost use Rattle.page_table.specs.Search.{with_entry};
+
 use crate::entry::{Link, PageEntry, Tag};
 use refusals::refusal::Refusal;
 use std::ops::ControlFlow;
@@ -13,7 +16,27 @@ pub struct Query {
     pub stop: Refusal,
 }
 
-// The entry that a walk found, with what it says, and how many entries were compared.
+// How many entries were compared, and the last of them.
+#[derive(Clone, Copy, PartialEq, Eq, Default, Debug)]
+pub struct Compared {
+    pub count: u16,
+    pub last: Option<u16>,
+}
+
+impl Compared {
+    // With one entry more.
+    pub(crate) fn with(self, entry: u16) -> Compared
+        requires { self.count < 8192 }
+        ensures { result ≡ with_entry self entry }
+    {
+        Compared {
+            count: self.count + 1,
+            last: Some(entry),
+        }
+    }
+}
+
+// The entry that a walk found, with what it says, and how many entries were compared: it is the last of them.
 #[derive(Clone, Copy, PartialEq, Eq, Debug)]
 pub struct Found {
     pub entry: u16,
@@ -28,12 +51,11 @@ pub struct Linked {
     pub link: Link,
 }
 
-// Why a search or a request was refused, how many entries were compared, and the last of them.
+// Why a search or a request was refused, and which entries were compared before.
 #[derive(Clone, Copy, PartialEq, Eq, Debug)]
 pub struct Fault {
     pub refusal: Refusal,
-    pub compared: u16,
-    pub last: Option<u16>,
+    pub compared: Compared,
 }
 
 // The entries that a walk compared, in their order, and what came of it.

@@ -7,3 +7,4 @@ pub mod form;
 pub mod geometry;
 pub mod plan;
 pub mod settling;
+pub mod smallest;

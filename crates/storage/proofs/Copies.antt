@@ -1,5 +1,5 @@
 -- A copy, word by word.
-use Rattle.std.proofs.Common.{◌≡◌, ℕ, ◌+◌, ◌<◌, cond, ltb, List, length, get_or, sym, refl, ap, ◌∙◌, arith}
+use Rattle.std.proofs.Common.{◌≡◌, ℕ, ◌+◌, ◌<◌, ◌≤◌, cond, ltb, List, length, get_or, sym, refl, ap, ◌∙◌, arith}
 use Rattle.std.proofs.lemmas.Bool.Decides.{nat_tests}
 use Rattle.storage.specs.Words.{written}
 use Rattle.storage.specs.Copy.{copied_up_to}
@@ -34,6 +34,10 @@ copied_more ws vs us n word e here fits =
     refl
     (λ k _. grind (arith, nat_tests)))
 
-pub copied_alike : (ws vs us : List ℕ) → us ≡ copied_up_to (length ws) ws vs → length ws ≡ length vs → us ≡ ws
-copied_alike ws vs us e same =
-    e ∙ sym (tabulated_by ws (length vs) (λ k. cond (ltb k (length ws)) (get_or ws k 0) (get_or vs k 0)) same (λ k h. grind (arith, nat_tests)))
+pub copied_alike :
+    (n : ℕ) (ws vs : List ℕ) → length ws ≤ n → length ws ≡ length vs → copied_up_to n ws vs ≡ ws
+copied_alike n ws vs all same =
+    sym (tabulated_by ws (length vs) (λ k. cond (ltb k n) (get_or ws k 0) (get_or vs k 0)) same (λ k h. grind (arith, nat_tests)))
+
+-- what a copy word by word needs
+pub ruleset copies = (length-copied, copied_none, copied_more, copied_alike)

@@ -1,5 +1,7 @@
 -- A word put into bytes and taken out again.
-use Rattle.std.proofs.Common.{◌≡◌, ℕ, ◌+◌, ◌*◌, ◌/◌, ◌%◌, ◌<◌, cond, eqb, ◌≢◌, List, length, sym, refl, arith, length-set, rules}
+use Rattle.std.proofs.Common.{◌≡◌, ℕ, zero, suc, ◌+◌, ◌-◌, ◌*◌, ◌/◌, ◌%◌, ◌<◌, cond, eqb, ◌≢◌, List, [], ◌∷◌, length, set, sym, refl, ap, ◌∙◌, arith, length-set, rules}
+use Rattle.std.proofs.Math.Nat.{suc-add}
+use borrow.Rule.Slice.PartMut.{put_mid}
 use native.Mathlib.Nat.{div-div-eq-div-mul}
 use Rattle.std.proofs.lemmas.List.{places}
 use Rattle.std.proofs.lemmas.Bool.Decides.{nat_tests}
@@ -44,6 +46,29 @@ pub word_put :
     word_at (with_word bs n w) k ≡ cond (eqb k n) w (word_at bs k)
 word_put bs n w k h fits =
     let here = put_here bs n w h fits in let there = put_there bs n w k h in grind (arith, nat_tests)
+
+-- four elements in the place of four
+four_put :
+    (xs : List ℕ) (n a b c d : ℕ) →
+    n + 3 < length xs →
+    put_mid n 4 xs (a ∷ b ∷ c ∷ d ∷ []) ≡ set (set (set (set xs n a) (n + 1) b) (n + 2) c) (n + 3) d
+four_put [] n a b c d h = absurd (omega arith)
+four_put (x ∷ xs) (suc n) a b c d h = simp suc-add (ap (λ ys. x ∷ ys) (four_put xs n a b c d (omega arith)))
+four_put (x ∷ []) zero a b c d h = absurd (omega arith)
+four_put (x ∷ y ∷ []) zero a b c d h = absurd (omega arith)
+four_put (x ∷ y ∷ z ∷ []) zero a b c d h = absurd (omega arith)
+four_put (x ∷ y ∷ z ∷ w ∷ xs) zero a b c d h = refl
+
+pub word_over_bytes :
+    (bs ys : List ℕ) (n w : ℕ) →
+    4 * n + 3 < length bs →
+    ys ≡ w / 16777216 % 256 ∷ w / 65536 % 256 ∷ w / 256 % 256 ∷ w % 256 ∷ [] →
+    put_mid (4 * n) (4 * n + 4 - 4 * n) bs ys ≡ with_word bs n w
+word_over_bytes bs ys n w h e =
+    let four : 4 * n + 4 - 4 * n ≡ 4 = omega arith in
+    ap (λ k. put_mid (4 * n) k bs ys) four
+    ∙ ap (put_mid (4 * n) 4 bs) e
+    ∙ four_put bs (4 * n) (w / 16777216 % 256) (w / 65536 % 256) (w / 256 % 256) (w % 256) h
 
 pub merged_fits : (old value mask : ℕ) → merged old value mask < 4294967296
 merged_fits old value mask = grind (arith, nat_tests)

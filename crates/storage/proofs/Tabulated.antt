@@ -1,9 +1,8 @@
 -- A storage's words, word by word: the bridge from "word k is .." to equations between lists, once for every board.
-use Rattle.std.proofs.Common.{◌≡◌, ℕ, ◌<◌, cond, ltb, List, [], length, get_or, Ok, Err, sym, refl, ◌∙◌, arith, length-set, get_or-set_other, get_or-set_same}
+use Rattle.std.proofs.Common.{◌≡◌, ℕ, ◌<◌, List, [], length, get_or, sym, refl, ◌∙◌, arith, length-set, get_or-set_other, get_or-set_same}
 use Rattle.std.proofs.lemmas.List.FromFn.{length-map-range_with_len, get_or-map-range_with_len, fill_by_all}
 use Rattle.std.proofs.lemmas.Bool.Decides.{nat_tests}
-use Rattle.refusals.specs.declared.refusal.Refusal.TheVariants.{WordOutside, MaskTooWide}
-use Rattle.storage.specs.Words.{read_of, write_of, written, merged, Written, tabulated}
+use Rattle.storage.specs.Words.{written, merged, Written, tabulated}
 
 pub length-tabulated : (c : ℕ) (f : ℕ → ℕ) → length (tabulated c f) ≡ c
 unfolding tabulated
@@ -12,6 +11,9 @@ length-tabulated c f = length-map-range_with_len f 0 c
 pub tabulated_at : (c : ℕ) (f : ℕ → ℕ) (k : ℕ) → k < c → get_or (tabulated c f) k 0 ≡ f k
 unfolding tabulated
 tabulated_at c f k h = get_or-map-range_with_len f 0 c k k 0 h (omega arith)
+
+-- what a read or a write of a table of words needs
+pub ruleset tables = (length-tabulated, tabulated_at, nat_tests)
 
 -- a list is the table of its places
 pub tabulated_by :
@@ -27,15 +29,6 @@ written_at ws n value mask k h =
     let same = get_or-set_same ws n (merged (get_or ws n 0) value mask) 0 in
     let other = get_or-set_other ws n k (merged (get_or ws n 0) value mask) 0 in
     grind (arith, nat_tests)
-
-pub tabulated_read :
-    (c : ℕ) (f : ℕ → ℕ) (n : ℕ) → cond (ltb n c) (Ok (f n)) (Err WordOutside) ≡ read_of (tabulated c f) n
-tabulated_read c f n = let l = length-tabulated c f in let i = tabulated_at c f n in grind (arith, nat_tests)
-
-pub tabulated_answer :
-    (c : ℕ) (f : ℕ → ℕ) (n mask : ℕ) →
-    cond (ltb n c) (cond (ltb mask 16) (Ok tt) (Err MaskTooWide)) (Err WordOutside) ≡ write_of (tabulated c f) n mask
-tabulated_answer c f n mask = rw length-tabulated
 
 pub tabulated-written :
     (c d : ℕ) (f g : ℕ → ℕ) (n value mask : ℕ) →

@@ -27,19 +27,16 @@ pub fn get_word(bytes: &[u8], n: u32) -> u32
     ensures { result ≡ word_at bytes.now n }
 {
     let at = 4 * n as usize;
-    u32::from_be_bytes([bytes[at], bytes[at + 1], bytes[at + 2], bytes[at + 3]])
+    u32::from_be_bytes(bytes[at..at + 4].try_into().unwrap())
 }
 
+#[tactic(auto, using(crate::proofs::Splits::word_over_bytes))]
 pub fn put_word(bytes: &mut [u8], n: u32, word: u32)
     requires { 4 * n + 3 < length bytes.old }
     ensures { bytes.new ≡ with_word bytes.old n word }
 {
-    let [a, b, c, d] = word.to_be_bytes();
     let at = 4 * n as usize;
-    bytes[at] = a;
-    bytes[at + 1] = b;
-    bytes[at + 2] = c;
-    bytes[at + 3] = d;
+    bytes[at..at + 4].copy_from_slice(&word.to_be_bytes());
 }
 
 // Writes the bytes of the value whose mask bit is on.

@@ -5,6 +5,7 @@ use crate::words::{ReadStorage, Storage};
 use refusals::refusal::Refusal;
 
 // Copies every word of one storage to the start of another, which has to have as many words or more.
+#[tactic(auto, using(crate::proofs::Copies::copies))]
 pub fn copy_words<A: ReadStorage, B: Storage>(from: &A, to: &mut B) -> Result<(), Refusal>
     ensures answer { result ≡ copy_of (A.ReadStorage.words from.now) (B.ReadStorage.words to.old) }
     ensures after { B.ReadStorage.words to.new ≡ copied (A.ReadStorage.words from.now) (B.ReadStorage.words to.old) }

@@ -1,4 +1,4 @@
-use crate::cases::{holds, number};
+use crate::cases::{exchanged, holds, number};
 use dump_board::board::DumpBoard;
 use refusals::refusal::Refusal;
 use std::process::Abort;
@@ -44,17 +44,16 @@ fn shuffled_reads(rt: HostRuntime) {
     assert_eq!(rt; number(board.fill(&[2, 0, 1])), 0);
     assert_eq!(rt; board.count(), 1536);
     // the first and the last word of each page, and one within
-    let cases = [
-        (0u32, 0x01000000u32),
+    for (word, want) in [
+        (0, 0x01000000),
         (511, 0x010001ff),
         (512, 0x02000000),
         (812, 0x0200012c),
         (1023, 0x020001ff),
         (1024, 0x00000000),
         (1535, 0x000001ff),
-    ];
-    for (word, want) in cases.iter() {
-        assert_eq!(rt; board.read(*word), Ok(*want));
+    ] {
+        assert_eq!(rt; board.read(word), Ok(want));
     }
     assert_eq!(rt; board.read(1536), Err(Refusal::WordOutside));
     assert_eq!(rt; board.read(u32::MAX), Err(Refusal::WordOutside));
@@ -64,27 +63,26 @@ fn shuffled_reads(rt: HostRuntime) {
 #[test]
 fn shuffled_writes(rt: HostRuntime) {
     // the word, and its first byte: 2,048 for each block before, and four for each word of the block before
-    let cases = [
-        (0u32, 2048usize),
+    for (word, at) in [
+        (0, 2048),
         (511, 4092),
         (512, 4096),
         (1023, 6140),
         (1024, 0),
         (1535, 2044),
-    ];
-    for (word, at) in cases.iter() {
+    ] {
         let mut bytes = [0u8; 6147];
         mark(&mut bytes);
         let mut want = bytes;
-        assert!(rt; *at < 6144);
-        want[*at] = 0xa1;
-        want[*at + 2] = 0xc3;
-        want[*at + 3] = 0xd4;
+        assert!(rt; at < 6144);
+        want[at] = 0xa1;
+        want[at + 2] = 0xc3;
+        want[at + 3] = 0xd4;
         let mut board = DumpBoard::new(&mut bytes);
         assert_eq!(rt; number(board.fill(&[2, 0, 1])), 0);
         // mask 11 leaves the second byte
-        assert_eq!(rt; number(board.write(*word, 0xa1b2c3d4, 11)), 0);
-        assert_eq!(rt; board.read(*word), Ok(0xa100c3d4));
+        assert_eq!(rt; number(board.write(word, 0xa1b2c3d4, 11)), 0);
+        assert_eq!(rt; board.read(word), Ok(0xa100c3d4));
         assert!(rt; bytes == want);
     }
 }
@@ -95,17 +93,15 @@ fn refused_writes(rt: HostRuntime) {
     let mut bytes = [0u8; 4096];
     mark(&mut bytes);
     let before = bytes;
-    let mut board = DumpBoard::new(&mut bytes);
-    assert_eq!(rt; number(board.fill(&[1, 0])), 0);
-    let cases = [
-        (1024u32, 15u8, 16u8),
+    let mut board = exchanged(&rt, &mut bytes);
+    for (word, mask, want) in [
+        (1024, 15, 16),
         (1024, 16, 16),
         (u32::MAX, 255, 16),
         (1023, 16, 17),
         (0, 255, 17),
-    ];
-    for (word, mask, want) in cases.iter() {
-        assert_eq!(rt; number(board.write(*word, 0xaabbccdd, *mask)), *want);
+    ] {
+        assert_eq!(rt; number(board.write(word, 0xaabbccdd, mask)), want);
         assert_eq!(rt; board.count(), 1024);
     }
     assert!(rt; bytes == before);
@@ -161,24 +157,22 @@ fn no_pages(rt: HostRuntime) {
 #[test]
 fn too_few_bytes(rt: HostRuntime) {
     // the bytes lent, and the words of two blocks and of one
-    let cases = [
-        (0usize, 0u32, 0u32),
+    for (length, two, one) in [
+        (0, 0, 0),
         (2047, 0, 0),
         (2048, 0, 512),
         (4095, 0, 512),
         (4096, 1024, 512),
         (4099, 1024, 512),
-    ];
-    for (length, two, one) in cases.iter() {
-        assert!(rt; *length <= 4099);
+    ] {
+        assert!(rt; length <= 4099);
         let mut bytes = [0u8; 4099];
-        let mut board = DumpBoard::new(&mut bytes[..*length]);
-        assert_eq!(rt; number(board.fill(&[1, 0])), 0);
-        assert_eq!(rt; board.count(), *two);
-        assert_eq!(rt; board.read(*two), Err(Refusal::WordOutside));
-        assert_eq!(rt; number(board.write(*two, 1, 15)), 16);
+        let mut board = exchanged(&rt, &mut bytes[..length]);
+        assert_eq!(rt; board.count(), two);
+        assert_eq!(rt; board.read(two), Err(Refusal::WordOutside));
+        assert_eq!(rt; number(board.write(two, 1, 15)), 16);
         assert_eq!(rt; number(board.fill(&[0])), 0);
-        assert_eq!(rt; board.count(), *one);
+        assert_eq!(rt; board.count(), one);
         assert!(rt; bytes == [0u8; 4099]);
     }
 }

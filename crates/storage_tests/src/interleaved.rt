@@ -1,8 +1,9 @@
-use crate::cases::{holds, number, refuses, takes_four_writes, writes_beside_a_dump};
+use crate::cases::{
+    exchanged, holds, number, refuses_behind_two_words, takes_four_writes, writes_beside_a_dump,
+};
 use boards::interleaved::Interleaved;
 use boards::ram::RamBoard;
 use boards::stacked::Stacked;
-use dump_board::board::DumpBoard;
 use std::process::Abort;
 use storage::words::{ReadStorage, Storage};
 
@@ -11,16 +12,11 @@ use storage::words::{ReadStorage, Storage};
 #[test]
 fn twice_the_shorter(rt: HostRuntime) {
     let words = [
-        0x01000000u32,
-        0x02000000,
-        0x01000001,
-        0x02000001,
-        0x01000002,
-        0x02000002,
+        0x01000000, 0x02000000, 0x01000001, 0x02000001, 0x01000002, 0x02000002,
     ];
     // the bytes of the first and of the second, and the words of the pair
-    let cases = [
-        (12usize, 12usize, 6usize),
+    for (one, other, count) in [
+        (12, 12, 6),
         (12, 8, 4),
         (8, 12, 4),
         (7, 12, 2),
@@ -28,15 +24,13 @@ fn twice_the_shorter(rt: HostRuntime) {
         (12, 3, 0),
         (0, 12, 0),
         (0, 0, 0),
-    ];
-    for (one, other, count) in cases.iter() {
-        assert!(rt; *one <= 12 && *other <= 12 && *count <= 6);
+    ] {
+        assert!(rt; one <= 12 && other <= 12 && count <= 6);
         let mut first = [1u8, 0, 0, 0, 1, 0, 0, 1, 1, 0, 0, 2];
         let mut second = [2u8, 0, 0, 0, 2, 0, 0, 1, 2, 0, 0, 2];
-        let low = RamBoard::new(&mut first[..*one]);
-        let high = RamBoard::new(&mut second[..*other]);
-        let pair = Interleaved::new(low, high);
-        holds(&rt, &pair, &words[..*count]);
+        let low = RamBoard::new(&mut first[..one]);
+        let high = RamBoard::new(&mut second[..other]);
+        holds(&rt, &Interleaved::new(low, high), &words[..count]);
     }
 }
 
@@ -45,8 +39,8 @@ fn twice_the_shorter(rt: HostRuntime) {
 fn writes_by_turns(rt: HostRuntime) {
     let mut first = [0u8; 12];
     let mut second = [0u8; 8];
-    let mut pair = Interleaved::new(RamBoard::new(&mut first), RamBoard::new(&mut second));
-    takes_four_writes(&rt, &mut pair);
+    let pair = Interleaved::new(RamBoard::new(&mut first), RamBoard::new(&mut second));
+    takes_four_writes(&rt, pair);
     assert_eq!(rt;
         first,
         [0x11u8, 0x22, 0x33, 0x44, 0, 0xbb, 0, 0, 0, 0, 0, 0]
@@ -60,15 +54,8 @@ fn writes_by_turns(rt: HostRuntime) {
 fn refused_writes(rt: HostRuntime) {
     let mut first = [1u8, 2, 3, 4, 5, 6, 7, 8];
     let mut second = [9u8, 10, 11, 12];
-    let mut pair = Interleaved::new(RamBoard::new(&mut first), RamBoard::new(&mut second));
-    let cases = [
-        (2u32, 15u8, 16u8),
-        (2, 16, 16),
-        (u32::MAX, 255, 16),
-        (0, 16, 17),
-        (1, 255, 17),
-    ];
-    refuses(&rt, &mut pair, 0, &cases, &[0x01020304, 0x090a0b0c]);
+    let pair = Interleaved::new(RamBoard::new(&mut first), RamBoard::new(&mut second));
+    refuses_behind_two_words(&rt, pair, [0x01020304, 0x090a0b0c]);
     assert_eq!(rt; first, [1u8, 2, 3, 4, 5, 6, 7, 8]);
 }
 
@@ -93,9 +80,9 @@ fn over_a_stacked_pair(rt: HostRuntime) {
     assert_eq!(rt; b, [2u8, 2, 2, 2, 0xaa, 0xbb, 3, 3]);
 }
 
-// A pair of two storages of 1,024 words.
+// A pair of two storages of 1,024 words. Generic, since the check covers no call at a pair of a dump.
 fn by_turns<A: Storage + Drop, B: Storage + Drop>(rt: &impl Abort, first: A, second: B) {
-    writes_beside_a_dump(rt, &mut Interleaved::new(first, second), 2048, 1025, 1024);
+    writes_beside_a_dump(rt, Interleaved::new(first, second), 2048, 1025, 1024);
 }
 
 // A dump board in a pair: block 0 holds page 1, so word 512 of the dump, word 1,025 of the pair, begins at its byte 0.
@@ -103,9 +90,7 @@ fn by_turns<A: Storage + Drop, B: Storage + Drop>(rt: &impl Abort, first: A, sec
 fn over_a_dump(rt: HostRuntime) {
     let mut ram = [0u8; 4096];
     let mut blocks = [0u8; 4096];
-    let mut dump = DumpBoard::new(&mut blocks);
-    assert_eq!(rt; number(dump.fill(&[1, 0])), 0);
-    by_turns(&rt, RamBoard::new(&mut ram), dump);
+    by_turns(&rt, RamBoard::new(&mut ram), exchanged(&rt, &mut blocks));
     assert_eq!(rt; &blocks[..8], [1u8, 2, 3, 4, 0, 0, 0, 0].as_slice());
     assert_eq!(rt;
         &ram[2044..2056],

@@ -1,7 +1,8 @@
 #![tactic(auto)]
 
 // Tests of the storage boards through their public functions. What they expect is worked out by hand from the rules. The two
-// pairs are tested by like steps, on cases of their own, since a word lies elsewhere in each.
+// pairs are tested by like steps, on cases of their own, since a word lies elsewhere in each. The bytes that a board has to leave
+// are written out in each test, where they can be seen. The modules are listed as in each crate of tests.
 #[cfg(test)]
 mod cases;
 #[cfg(test)]

@@ -20,6 +20,7 @@ struct Made {
     ghost low: { base ≤ 16777216 },
 }
 
+#[tactic(auto, using(storage::proofs::Tabulated::tables))]
 impl ReadStorage for Made {
     ghost words = { λ s. made_words s.count s.base };
 

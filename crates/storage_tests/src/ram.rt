@@ -8,12 +8,12 @@ use storage::words::{ReadStorage, Storage};
 #[test]
 fn four_bytes_to_a_word(rt: HostRuntime) {
     let words = [0x01020304u32, 0x05060708];
-    let counts = [0usize, 0, 0, 0, 1, 1, 1, 1, 2, 2, 2, 2];
-    for (length, count) in counts.iter().enumerate() {
-        assert!(rt; length < 12 && *count < 3);
+    let counts = [0, 0, 0, 0, 1, 1, 1, 1, 2, 2, 2, 2];
+    for (length, count) in counts.into_iter().enumerate() {
+        assert!(rt; length < 12 && count < 3);
         let mut bytes = [1u8, 2, 3, 4, 5, 6, 7, 8, 9, 10, 11];
         let board = RamBoard::new(&mut bytes[..length]);
-        holds(&rt, &board, &words[..*count]);
+        holds(&rt, &board, &words[..count]);
     }
 }
 
@@ -21,30 +21,16 @@ fn four_bytes_to_a_word(rt: HostRuntime) {
 #[test]
 fn every_mask(rt: HostRuntime) {
     // 0xaabbccdd over 0x11223344, for the masks 0 to 15
-    let want = [
-        0x11223344u32,
-        0x112233dd,
-        0x1122cc44,
-        0x1122ccdd,
-        0x11bb3344,
-        0x11bb33dd,
-        0x11bbcc44,
-        0x11bbccdd,
-        0xaa223344,
-        0xaa2233dd,
-        0xaa22cc44,
-        0xaa22ccdd,
-        0xaabb3344,
-        0xaabb33dd,
-        0xaabbcc44,
-        0xaabbccdd,
+    let want: [u32; 16] = [
+        0x11223344, 0x112233dd, 0x1122cc44, 0x1122ccdd, 0x11bb3344, 0x11bb33dd, 0x11bbcc44,
+        0x11bbccdd, 0xaa223344, 0xaa2233dd, 0xaa22cc44, 0xaa22ccdd, 0xaabb3344, 0xaabb33dd,
+        0xaabbcc44, 0xaabbccdd,
     ];
-    assert_eq!(rt; want.len(), 16);
-    for (mask, word) in (0u8..16).zip(want.iter()) {
+    for (mask, word) in (0..16).zip(want) {
         let mut bytes = [1u8, 2, 3, 4, 0x11, 0x22, 0x33, 0x44, 9, 10, 11, 12];
         let mut board = RamBoard::new(&mut bytes);
         assert_eq!(rt; board.write(1, 0xaabbccdd, mask), Ok(()));
-        holds(&rt, &board, &[0x01020304, *word, 0x090a0b0c]);
+        holds(&rt, &board, &[0x01020304, word, 0x090a0b0c]);
     }
 }
 
@@ -54,7 +40,7 @@ fn refused_writes(rt: HostRuntime) {
     let mut bytes = [1u8, 2, 3, 4, 5, 6, 7, 8, 9];
     // the word, the mask and the number of the refusal; two words lie in nine bytes
     let cases = [
-        (2u32, 15u8, 16u8),
+        (2, 15, 16),
         (2, 0, 16),
         (2, 16, 16),
         (u32::MAX, 255, 16),

@@ -1,3 +1,2 @@
-mod Listing
 mod Steps
 mod Failing

@@ -21,7 +21,7 @@ value_of (Cleared c) = Err NoValue
 
 -- what stands past the end of a list of replies
 abbrev pub no_reply : Reply
-no_reply = Request (Ok (record { value = 0; compared = 0; last = None }))
+no_reply = Request (Ok (record { value = 0; compared = record { count = 0; last = None } }))
 
 -- four replies from the n-th on are accepted loads, and their values spell a marker
 pub record Spelled (replies : List Reply) (n : ℕ) (m : Marker) : Type 0 where

@@ -32,7 +32,7 @@ const READ_ONLY: SegmentRegister = SegmentRegister {
     key: true,
 };
 
-// Calls, carried out by a unit whose registers 1 and 2 are for one segment.
+// Calls, carried out by a unit whose registers 1 and 2 are for one segment. The signature is the trait's, as each impl writes it.
 #[derive(Clone, Copy)]
 pub struct CallCheck<'a> {
     pub calls: &'a [Call],

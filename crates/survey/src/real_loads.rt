@@ -1,6 +1,8 @@
-ghost use Rattle.std.specs.Prelude.{◌≡◌, IfOk, OnOk};
+ghost use Rattle.std.specs.Prelude.{◌≡◌, Ok, IfOk, OnOk};
 ghost use Rattle.paging.specs.Numbers.{numbers_of};
-ghost use Rattle.survey.specs.Markers.{marker_read, marker_used, sites_used, AllRead};
+ghost use Rattle.lanes.specs.declared.width.Width.TheVariants.{Word};
+ghost use Rattle.mmu.specs.Real.{real_load, after_real_load};
+ghost use Rattle.survey.specs.Markers.{accepting, marker_read, marker_used, sites_used, AllRead};
 
 use crate::readings::spelled;
 use crate::trouble::Trouble;
@@ -13,6 +15,20 @@ use storage::words::ReadStorage;
 use survey_image::marker::{Marker, Site};
 use unit_state::answer::Fault;
 
+// Loads the word at a real address.
+fn word_at<F: PageForm, S: ReadStorage>(
+    unit: &mut MemoryUnit<F>,
+    storage: &S,
+    number: u32,
+) -> Result<u32, Fault>
+    ensures answer { result ≡ accepting (real_load (numbers_of unit.old.plan) (S.ReadStorage.words storage.now) Word number) (λ value. Ok value) }
+    ensures state { unit.new.state ≡ after_real_load (numbers_of unit.old.plan) (S.ReadStorage.words storage.now) number unit.old.state }
+    ensures plan { unit.new.plan ≡ unit.old.plan }
+{
+    let access = unit.load_real(storage, RealAddress { number }, Width::Word)?;
+    Ok(access.value)
+}
+
 // Reads the marker at a real address by four loads.
 pub fn read_marker<F: PageForm, S: ReadStorage>(
     unit: &mut MemoryUnit<F>,
@@ -23,25 +39,11 @@ pub fn read_marker<F: PageForm, S: ReadStorage>(
     ensures state { unit.new.state ≡ marker_used (numbers_of unit.old.plan) (S.ReadStorage.words storage.now) address unit.old.state }
     ensures plan { unit.new.plan ≡ unit.old.plan }
 {
-    let number = u32::from(address);
-    let first = unit
-        .load_real(storage, RealAddress { number }, Width::Word)?
-        .value;
-    let second = unit
-        .load_real(storage, RealAddress { number: number + 4 }, Width::Word)?
-        .value;
-    let easting = unit
-        .load_real(storage, RealAddress { number: number + 8 }, Width::Word)?
-        .value;
-    let northing = unit
-        .load_real(
-            storage,
-            RealAddress {
-                number: number + 12,
-            },
-            Width::Word,
-        )?
-        .value;
+    let start = u32::from(address);
+    let first = word_at(unit, storage, start)?;
+    let second = word_at(unit, storage, start + 4)?;
+    let easting = word_at(unit, storage, start + 8)?;
+    let northing = word_at(unit, storage, start + 12)?;
     Ok(spelled(first, second, easting, northing))
 }
 

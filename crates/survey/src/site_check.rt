@@ -44,7 +44,7 @@ pub fn check_image<F: PageForm + Drop>(
     check_sites(heap, draft, &RamBoard::new(image), sites)
 }
 
-// The markers at sites, read by real loads.
+// The markers at sites, read by real loads. The signature is the trait's, as each impl writes it.
 #[derive(Clone, Copy)]
 pub struct SiteCheck<'a> {
     pub sites: &'a [Site],

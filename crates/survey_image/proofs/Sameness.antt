@@ -2,7 +2,7 @@
 use Rattle.std.specs.Cmp.Lexicographic.{pointwise}
 use Rattle.std.proofs.Common.{◌≡◌, ℕ, eqb, ◌&&◌, List, Decides, ap, ◌∙◌}
 use Rattle.std.proofs.lemmas.Bool.Decides.{Decides-and, Decides-eqb, Decides-like}
-use Rattle.std.proofs.lemmas.Slice.Eq.{bytes_eq-Decides}
+use Rattle.std.proofs.lemmas.Slice.Eq.{bytes_eq-Decides, slice_eq-Decides}
 use Rattle.survey_image.specs.declared.marker.Marker.{Marker}
 
 -- `==` compares each part in turn, and so says whether two markers are the same
@@ -25,3 +25,6 @@ marker-Decides a b =
     _
     (bytes_eq-Decides a.name b.name)
     (Decides-and _ _ (Decides-eqb a.easting b.easting) (Decides-eqb a.northing b.northing)))
+
+-- two lists of markers are equal where the comparison says so
+pub ruleset sameness = (slice_eq-Decides, marker-Decides)

@@ -28,6 +28,7 @@ pub fn draw<S: Storage, B: AsBlock>(storage: &mut S, item: &B) -> Result<(), Ref
         return Err(Refusal::WordOutside);
     }
     let n = block.word;
+    // no loop: it would want an invariant about a block that is drawn in part, and these lines show the layout
     put(storage, n, block.words[0]);
     put(storage, n + 1, block.words[1]);
     put(storage, n + 2, block.words[2]);

@@ -1,17 +1,9 @@
 ghost use Rattle.std.specs.Prelude.{◌≡◌, ◌%◌, ◌≤◌};
-ghost use Rattle.paging.specs.Plan.{page_count};
 ghost use Rattle.survey_image.specs.Layout.{virtual_page, effective};
 
 use paging::address::EffectiveAddress;
 use paging::form::PageForm;
-
-// The number of pages of an image.
-pub(crate) fn page_count<F: PageForm>() -> u32
-    ensures is { result ≡ page_count F.PageForm.sizes 16 }
-    ensures few { result ≤ 32 }
-{
-    65536 / F::geometry().page
-}
+use paging::smallest::page_count;
 
 // The virtual page that a real page holds.
 pub fn virtual_page<F: PageForm>(page: u8) -> u32

@@ -5,9 +5,10 @@ ghost use Rattle.survey_image.specs.Drawing.{table_answer, table_after};
 
 use crate::block::Block;
 use crate::drawing::draw;
-use crate::layout::{page_count, virtual_page};
+use crate::layout::virtual_page;
 use paging::form::PageForm;
 use paging::plan::SettledPlan;
+use paging::smallest::page_count;
 use refusals::refusal::Refusal;
 use storage::words::{ReadStorage, Storage};
 
@@ -49,6 +50,7 @@ fn table_block<F: PageForm>(start: u32, page: u8) -> Block
 }
 
 // Writes the page table of a plan of 64 KiB into a storage of that size.
+#[tactic(auto, unfolding(crate::specs::Drawing::table_drawn))]
 pub fn draw_table<F: PageForm, S: Storage>(
     storage: &mut S,
     plan: &SettledPlan<F>,

@@ -24,16 +24,24 @@ pub(crate) fn drawn_image(heap: Global) -> Result<Vec<u8>, Fail> {
     Ok(image)
 }
 
-// The markers are those of the sites, in their order. The first is CHAPEL at 348211725, 543188640 and the last HOHBERG at
-// 348505268, 543055514, in centimetres.
+// The first of the markers and the last, in centimetres.
+const CHAPEL: Marker = Marker {
+    name: *b"CHAPEL  ",
+    easting: 348_211_725,
+    northing: 543_188_640,
+};
+
+const HOHBERG: Marker = Marker {
+    name: *b"HOHBERG ",
+    easting: 348_505_268,
+    northing: 543_055_514,
+};
+
+// The markers are those of the sites, in their order.
 pub(crate) fn are_the_drawn(rt: &impl Abort, markers: &[Marker]) {
     assert_eq!(rt; markers.len(), 12);
-    assert!(rt; markers[0].name == *b"CHAPEL  ");
-    assert_eq!(rt; markers[0].easting, 348_211_725);
-    assert_eq!(rt; markers[0].northing, 543_188_640);
-    assert!(rt; markers[11].name == *b"HOHBERG ");
-    assert_eq!(rt; markers[11].easting, 348_505_268);
-    assert_eq!(rt; markers[11].northing, 543_055_514);
+    assert!(rt; markers[0] == CHAPEL);
+    assert!(rt; markers[11] == HOHBERG);
     for (site, marker) in SITES.iter().zip(markers) {
         assert!(rt; site.marker == *marker);
     }

@@ -3,7 +3,7 @@ use crate::support::{page_of, plan_of, virtual_page};
 use boards::ram::RamBoard;
 use page_table::entry::{Link, Tag};
 use page_table::search::search;
-use page_table::walk::{Fault, Found, Linked};
+use page_table::walk::{Compared, Fault, Found, Linked};
 use paging::form::{Form2K, Form4K, PageForm};
 use paging::plan::SettledPlan;
 use refusals::refusal::Refusal;
@@ -73,23 +73,23 @@ fn answers_ahead<F: PageForm>(
 }
 
 // A table of 32 entries has 512 bytes.
-fn cut_ahead<F: PageForm + Copy>(
+fn cut_ahead<F: PageForm>(
     rt: &impl Abort,
     heap: Global,
-    form: F,
-    exponent: u32,
+    plan: &SettledPlan<F>,
 ) -> Result<(), Fail> {
-    let plan = plan_of(form, exponent, 0)?;
     let mut bytes = vec![in heap; 0u8; 512]?;
     put_table::<F, RamBoard>(rt, &mut RamBoard::new(&mut bytes), 0)?;
     for (words, segment, page, refusal, compared, last) in REFUSED {
         let fault = Fault {
             refusal,
-            compared,
-            last,
+            compared: Compared {
+                count: compared,
+                last,
+            },
         };
         let tag = virtual_page(segment, page);
-        answers_ahead(rt, &mut bytes, words, &plan, tag, Err(fault));
+        answers_ahead(rt, &mut bytes, words, plan, tag, Err(fault));
     }
     for (words, segment, page, entry, compared, last, next) in FOUND {
         let tag = virtual_page(segment, page);
@@ -99,14 +99,8 @@ fn cut_ahead<F: PageForm + Copy>(
             compared,
         };
         let link = Link { last, next };
-        answers_ahead(
-            rt,
-            &mut bytes,
-            words,
-            &plan,
-            tag,
-            Ok(Linked { found, link }),
-        );
+        let linked = Linked { found, link };
+        answers_ahead(rt, &mut bytes, words, plan, tag, Ok(linked));
     }
     Ok(())
 }
@@ -114,6 +108,6 @@ fn cut_ahead<F: PageForm + Copy>(
 // A table has 32 entries in 2K with exponent 16 and in 4K with exponent 17.
 #[test]
 fn searches_that_read_ahead(rt: HostRuntime) -> Result<(), Fail> {
-    cut_ahead(&rt, rt.alloc(), Form2K, 16)?;
-    cut_ahead(&rt, rt.alloc(), Form4K, 17)
+    cut_ahead(&rt, rt.alloc(), &plan_of(Form2K, 16, 0)?)?;
+    cut_ahead(&rt, rt.alloc(), &plan_of(Form4K, 17, 0)?)
 }

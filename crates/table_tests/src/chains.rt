@@ -1,10 +1,8 @@
 use crate::support::{
-    anchor_word, answers, bytes_of, comes_to, link_word, plan_of, put_anchor, put_entry,
+    Walk, anchor_word, answers, bytes_of, link_word, plan_of, put_anchor, put_entry,
     turn_reserved_bits_on, virtual_page, word_number,
 };
 use boards::ram::RamBoard;
-use page_table::entry::Tag;
-use page_table::walk::{Fault, Found};
 use paging::form::{Form2K, Form4K, PageForm};
 use paging::plan::SettledPlan;
 use std::alloc::{AllocError, Global};
@@ -44,46 +42,59 @@ const ENTRIES: [(u16, u16, u32, bool, u16); 9] = [
     (16, 0x80f, 0x0000, false, 15),
 ];
 
-// A walk: the segment ID and page number, the number of the refusal (0 where the page is found), and how many entries are
-// compared, of those that follow.
-pub(crate) type Case = (u16, u32, u8, usize, [u16; 3]);
+// A walk: the segment ID and page number, the number of the refusal (0 where the page is found), and the entries that are
+// compared.
+pub(crate) type Case = (u16, u32, u8, &'static [u16]);
 
 pub(crate) const CASES: [Case; 24] = [
     // found at the first, second and third place
-    (0xabc, 0x1254, 0, 1, [0, 0, 0]),
-    (0x2bc, 0x1234, 0, 2, [0, 31, 0]),
-    (0xabc, 0x1234, 0, 3, [0, 31, 5]),
+    (0xabc, 0x1254, 0, &[0]),
+    (0x2bc, 0x1234, 0, &[0, 31]),
+    (0xabc, 0x1234, 0, &[0, 31, 5]),
     // the pointer of an entry that is equal is not looked at, be it 32, 8,191 or back in a circle
-    (0x009, 0x2000, 0, 1, [9, 0, 0]),
-    (0x00a, 0x4000, 0, 2, [10, 11, 0]),
-    (0xfff, 0x7fff, 0, 1, [12, 0, 0]),
-    (0x80f, 0x0000, 0, 2, [15, 16, 0]),
+    (0x009, 0x2000, 0, &[9]),
+    (0x00a, 0x4000, 0, &[10, 11]),
+    (0xfff, 0x7fff, 0, &[12]),
+    (0x80f, 0x0000, 0, &[15, 16]),
     // the whole tag is compared: these differ from an entry in the lowest bit of the page number that does not enter the hash,
     // in the highest bit of one of 16 bits and of 17 (which no entry has in 4K), in a bit of the segment ID above the hash,
     // and in two bits that cancel each other out in the hash
-    (0xabc, 0x1274, 9, 3, [0, 31, 5]),
-    (0xabc, 0x9234, 9, 3, [0, 31, 5]),
-    (0xabc, 0x1_1234, 9, 3, [0, 31, 5]),
-    (0xa9c, 0x1234, 9, 3, [0, 31, 5]),
-    (0xabd, 0x1235, 9, 3, [0, 31, 5]),
+    (0xabc, 0x1274, 9, &[0, 31, 5]),
+    (0xabc, 0x9234, 9, &[0, 31, 5]),
+    (0xabc, 0x1_1234, 9, &[0, 31, 5]),
+    (0xa9c, 0x1234, 9, &[0, 31, 5]),
+    (0xabd, 0x1235, 9, &[0, 31, 5]),
     // chains from the last anchor to entry 0, and from an anchor to the last entry
-    (0x000, 0x001f, 9, 3, [0, 31, 5]),
-    (0x000, 0x0005, 9, 2, [31, 5, 0]),
+    (0x000, 0x001f, 9, &[0, 31, 5]),
+    (0x000, 0x0005, 9, &[31, 5]),
     // a last entry is a page fault, though its pointer is outside
-    (0xfff, 0xffff, 9, 1, [12, 0, 0]),
-    (0x000, 0x0000, 9, 1, [12, 0, 0]),
+    (0xfff, 0xffff, 9, &[12]),
+    (0x000, 0x0000, 9, &[12]),
     // an empty anchor is one too, wherever it points; 1 1110 XOR 1 1111 is 1
-    (0x000, 0x0001, 9, 0, [0, 0, 0]),
-    (0x01e, 0x001f, 9, 0, [0, 0, 0]),
-    (0x000, 0x0002, 9, 0, [0, 0, 0]),
+    (0x000, 0x0001, 9, &[]),
+    (0x01e, 0x001f, 9, &[]),
+    (0x000, 0x0002, 9, &[]),
     // anchors that point to 32 and to 8,191; 1 1111 XOR 1 1011 is 4
-    (0x000, 0x0003, 11, 0, [0, 0, 0]),
-    (0x000, 0x0004, 11, 0, [0, 0, 0]),
-    (0xfff, 0xfffb, 11, 0, [0, 0, 0]),
+    (0x000, 0x0003, 11, &[]),
+    (0x000, 0x0004, 11, &[]),
+    (0xfff, 0xfffb, 11, &[]),
     // entries that do, at the first and at the second place
-    (0x000, 0x0009, 11, 1, [9, 0, 0]),
-    (0x000, 0x000a, 11, 2, [10, 11, 0]),
+    (0x000, 0x0009, 11, &[9]),
+    (0x000, 0x000a, 11, &[10, 11]),
 ];
+
+// The tests here begin with the same word at every anchor of a table of 32 entries.
+fn put_anchors<S: Storage>(
+    rt: &impl Abort,
+    storage: &mut S,
+    start: u32,
+    word1: u32,
+) -> Result<(), Fail> {
+    for anchor in 0..32 {
+        put_anchor(rt, storage, start, anchor, word1)?;
+    }
+    Ok(())
+}
 
 // Writes the table from a word of a storage on.
 pub(crate) fn put_table<F: PageForm, S: Storage>(
@@ -91,9 +102,7 @@ pub(crate) fn put_table<F: PageForm, S: Storage>(
     storage: &mut S,
     start: u32,
 ) -> Result<(), Fail> {
-    for anchor in 0..32 {
-        put_anchor(rt, storage, start, anchor, anchor_word(true, 0))?;
-    }
+    put_anchors(rt, storage, start, anchor_word(true, 0))?;
     for (anchor, empty, first) in ANCHORS {
         put_anchor(rt, storage, start, anchor, anchor_word(empty, first))?;
     }
@@ -110,62 +119,39 @@ pub(crate) fn put_table<F: PageForm, S: Storage>(
     Ok(())
 }
 
-// The virtual page that a walk asks for.
-pub(crate) fn asked(case: Case) -> Tag {
-    let (segment, page, _, _, _) = case;
-    virtual_page(segment, page)
-}
-
-// Checks what came of a walk of the list.
-pub(crate) fn comes_as_listed(
-    rt: &impl Abort,
-    outcome: Result<Found, Fault>,
-    case: Case,
-    long_stop: bool,
-    setting: &str,
-) {
-    let (_, _, number, count, path) = case;
-    assert!(rt; count <= 3);
-    comes_to(
-        rt,
-        outcome,
-        asked(case),
+// A walk of the list. The long-stop bit makes no difference to it.
+pub(crate) fn listed(case: Case, long_stop: bool) -> Walk<'static> {
+    let (segment, page, number, path) = case;
+    Walk {
+        tag: virtual_page(segment, page),
         long_stop,
         number,
-        &path[0..count],
-        setting,
-    );
-}
-
-// Checks a walk of the list, and the list of the entries that it compares, with the long-stop bit off and on: it makes no
-// difference here.
-pub(crate) fn answers_as_listed<F: PageForm, S: ReadStorage>(
-    rt: &impl Abort,
-    heap: Global,
-    storage: &S,
-    plan: &SettledPlan<F>,
-    case: Case,
-    setting: &str,
-) -> Result<(), Fail> {
-    let (_, _, number, count, path) = case;
-    assert!(rt; count <= 3);
-    let path = &path[0..count];
-    let tag = asked(case);
-    answers(rt, heap, storage, plan, tag, false, number, path, setting)?;
-    answers(rt, heap, storage, plan, tag, true, number, path, setting)
-}
-
-// The walk that goes round entries 15 and 16, with the long-stop bit off and on: the number of the refusal, and how many
-// entries are compared. With the bit off that is 32, as many as the table has (12), and with it on 127 (10).
-pub(crate) const ROUNDS: [(bool, u8, u16); 2] = [(false, 12, 32), (true, 10, 127)];
-
-// The entries that it compares: the n-th is 15 where n is odd.
-pub(crate) fn round(heap: Global, count: u16) -> Result<Vec<u16>, AllocError> {
-    let mut path = Vec::new(heap);
-    for n in 0..count {
-        path.push(if n % 2 == 0 { 15 } else { 16 })?;
+        path,
     }
-    Ok(path)
+}
+
+// Entries 15 and 16 in turn, as many as are compared at the most with the long-stop bit on.
+pub(crate) fn turns(heap: Global) -> Result<Vec<u16>, AllocError> {
+    [15, 16].iter().copied().cycle().take(127).collect(heap)
+}
+
+// The walk that goes round entries 15 and 16, with the long-stop bit off and on. With the bit off it compares 32, as many as
+// the table has (12), and with it on 127 (10).
+pub(crate) fn rounds<'a>(rt: &impl Abort, turns: &'a [u16]) -> [Walk<'a>; 2] {
+    assert!(rt; turns.len() == 127);
+    let off = Walk {
+        tag: virtual_page(0, 15),
+        long_stop: false,
+        number: 12,
+        path: &turns[0..32],
+    };
+    let on = Walk {
+        long_stop: true,
+        number: 10,
+        path: turns,
+        ..off
+    };
+    [off, on]
 }
 
 fn walks<F: PageForm, S: ReadStorage>(
@@ -176,46 +162,41 @@ fn walks<F: PageForm, S: ReadStorage>(
     setting: &str,
 ) -> Result<(), Fail> {
     for case in CASES {
-        answers_as_listed(rt, heap, storage, plan, case, setting)?;
+        for long_stop in [false, true] {
+            answers(rt, heap, storage, plan, listed(case, long_stop), setting)?;
+        }
     }
-    for (long_stop, number, count) in ROUNDS {
-        let path = round(heap, count)?;
-        let tag = virtual_page(0, 15);
-        answers(
-            rt, heap, storage, plan, tag, long_stop, number, &path, setting,
-        )?;
+    for walk in rounds(rt, &turns(heap)?) {
+        answers(rt, heap, storage, plan, walk, setting)?;
     }
     Ok(())
 }
 
 // Searches the table at a base, first with every reserved bit off and then with every one on.
-fn at_base<F: PageForm + Copy>(
+fn at_base<F: PageForm>(
     rt: &impl Abort,
     heap: Global,
-    form: F,
-    exponent: u32,
-    base: u32,
+    plan: &SettledPlan<F>,
     start: u32,
 ) -> Result<(), Fail> {
-    let plan = plan_of(form, exponent, base)?;
-    let mut bytes = bytes_of(heap, &plan)?;
+    let mut bytes = bytes_of(heap, plan)?;
     let mut board = RamBoard::new(&mut bytes);
     put_table::<F, RamBoard>(rt, &mut board, start)?;
-    walks(rt, heap, &board, &plan, "reserved bits are off")?;
+    walks(rt, heap, &board, plan, "reserved bits are off")?;
     turn_reserved_bits_on::<F, RamBoard>(rt, &mut board, start, 32)?;
-    walks(rt, heap, &board, &plan, "reserved bits are on")
+    walks(rt, heap, &board, plan, "reserved bits are on")
 }
 
 // Every walk comes to the same at each base, be it the lowest or the highest, whatever the reserved bits are. The table of
 // 32 entries starts at word base * 128: 127 * 128 is 16,256 and 255 * 128 is 32,640.
 #[test]
 fn chains_at_each_base(rt: HostRuntime) -> Result<(), Fail> {
-    at_base(&rt, rt.alloc(), Form2K, 16, 0, 0)?;
-    at_base(&rt, rt.alloc(), Form2K, 16, 1, 128)?;
-    at_base(&rt, rt.alloc(), Form2K, 16, 127, 16256)?;
-    at_base(&rt, rt.alloc(), Form4K, 17, 0, 0)?;
-    at_base(&rt, rt.alloc(), Form4K, 17, 1, 128)?;
-    at_base(&rt, rt.alloc(), Form4K, 17, 255, 32640)
+    at_base(&rt, rt.alloc(), &plan_of(Form2K, 16, 0)?, 0)?;
+    at_base(&rt, rt.alloc(), &plan_of(Form2K, 16, 1)?, 128)?;
+    at_base(&rt, rt.alloc(), &plan_of(Form2K, 16, 127)?, 16256)?;
+    at_base(&rt, rt.alloc(), &plan_of(Form4K, 17, 0)?, 0)?;
+    at_base(&rt, rt.alloc(), &plan_of(Form4K, 17, 1)?, 128)?;
+    at_base(&rt, rt.alloc(), &plan_of(Form4K, 17, 255)?, 32640)
 }
 
 // Lets every anchor point to entry 20, which has this word 0 and is the last of its chain, and walks for three virtual
@@ -228,15 +209,18 @@ fn held_in<F: PageForm, S: Storage>(
     word0: u32,
     cases: [(u16, u32, u8); 3],
 ) -> Result<(), Fail> {
-    for anchor in 0..32 {
-        put_anchor(rt, storage, 0, anchor, anchor_word(false, 20))?;
-    }
+    put_anchors(rt, storage, 0, anchor_word(false, 20))?;
     for (segment, page, number) in cases {
         let tag = virtual_page(segment, page);
         put_entry::<F, S>(rt, storage, 0, 20, tag, link_word(true, 0))?;
         storage.write(word_number(rt, 0, 20, 0), word0, 15)?;
-        let setting = "only entry 20";
-        answers(rt, heap, storage, plan, tag, false, number, &[20], setting)?;
+        let walk = Walk {
+            tag,
+            long_stop: false,
+            number,
+            path: &[20],
+        };
+        answers(rt, heap, storage, plan, walk, "only entry 20")?;
     }
     Ok(())
 }

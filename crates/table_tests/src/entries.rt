@@ -61,19 +61,19 @@ const TAGS_4K: [(u32, u8, u16, u32); 12] = [
 // The key and the tag are as word 0 says, whatever word 2 is, and the write bit, transaction ID and lock bits as word 2 says,
 // whatever word 0 is.
 fn says<F: PageForm>(rt: &impl Abort, cases: &[(u32, u8, u16, u32)]) {
-    for (word0, key, segment, page) in cases {
-        let tag = virtual_page(*segment, *page);
-        assert_eq!(rt; tag_of::<F>(*word0), tag, "word 0 is {word0}");
+    for &(word0, key, segment, page) in cases {
+        let tag = virtual_page(segment, page);
+        assert_eq!(rt; tag_of::<F>(word0), tag, "word 0 is {word0}");
         for (word2, write, transaction, locks) in RIGHTS {
             let entry = PageEntry {
-                key: *key,
+                key,
                 tag,
                 write,
                 transaction,
                 locks,
             };
             assert_eq!(rt;
-                entry_of::<F>(*word0, word2),
+                entry_of::<F>(word0, word2),
                 entry,
                 "word 0 is {word0}, word 2 is {word2}"
             );

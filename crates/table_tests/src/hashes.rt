@@ -1,5 +1,5 @@
 use crate::support::{
-    anchor_word, comes_to, link_word, plan_of, put_anchor, put_entry, virtual_page,
+    Walk, anchor_word, comes_to, link_word, plan_of, put_anchor, put_entry, virtual_page,
 };
 use boards::ram::RamBoard;
 use page_table::finding::find_page;
@@ -42,11 +42,17 @@ fn start_at<F: PageForm, S: Storage>(
     cases: &[(u16, u32, u16)],
 ) -> Result<(), Fail> {
     anchors_to_themselves::<F, S>(rt, storage, start, pages)?;
-    for (segment, page, anchor) in cases {
-        let tag = virtual_page(*segment, *page);
+    for &(segment, page, anchor) in cases {
+        let tag = virtual_page(segment, page);
         for long_stop in [false, true] {
+            let walk = Walk {
+                tag,
+                long_stop,
+                number: 9,
+                path: &[anchor],
+            };
             let outcome = find_page(storage, plan, tag, long_stop);
-            comes_to(rt, outcome, tag, long_stop, 9, &[*anchor], "the hash");
+            comes_to(rt, outcome, walk, "the hash");
         }
     }
     Ok(())
@@ -149,15 +155,14 @@ fn the_longest_table(rt: HostRuntime) -> Result<(), Fail> {
         (held, true, 0, 1),
     ] {
         let path = vec![in rt.alloc(); 8191u16; count]?;
-        comes_to(
-            &rt,
-            find_page(&board, &plan, tag, long_stop),
+        let walk = Walk {
             tag,
             long_stop,
             number,
-            &path,
-            "the longest table",
-        );
+            path: &path,
+        };
+        let outcome = find_page(&board, &plan, tag, long_stop);
+        comes_to(&rt, outcome, walk, "the longest table");
     }
     Ok(())
 }

@@ -4,8 +4,10 @@
 // each test expects is worked out by hand from the rule that its comment states; a refusal stands in a table of cases by its
 // number, as the documents cite it.
 //
-// Each file sets its plan, its bytes and its board up itself: the board holds what the bytes lend, so no helper can give it back.
-// Loops go over the numbers of anchors and entries, which are places of the table and no items.
+// Each file sets its bytes and its board up itself: the board holds what the bytes lend, so no helper can give it back. Helpers
+// take the runtime, the heap, the storage and the plan one by one, since some of them are written to and others are not. Cases of
+// one page form stand beside those of the other, as the words differ. Loops go over the numbers of anchors and entries, which are
+// places of the table and no items. The modules are listed as in each crate of tests.
 #[cfg(test)]
 mod ahead;
 #[cfg(test)]

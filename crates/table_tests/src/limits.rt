@@ -1,5 +1,5 @@
 use crate::support::{
-    anchor_word, answers, bytes_of, down_to, link_word, plan_of, put_anchor, put_entry,
+    Walk, anchor_word, answers, bytes_of, down_to, link_word, plan_of, put_anchor, put_entry,
     turn_reserved_bits_on, virtual_page,
 };
 use boards::ram::RamBoard;
@@ -35,15 +35,13 @@ fn put_chain<F: PageForm, S: Storage>(
 
 // With the long-stop bit off as many entries are compared as the table has. The P-th is found where it is equal; else it is
 // a page fault (9) where it is the last, and an endless chain (12) where it is not, whatever its pointer is.
-fn whole_table<F: PageForm + Copy>(
+fn whole_table<F: PageForm>(
     rt: &impl Abort,
     heap: Global,
-    form: F,
-    exponent: u32,
+    plan: &SettledPlan<F>,
     pages: u16,
 ) -> Result<(), Fail> {
-    let plan = plan_of(form, exponent, 0)?;
-    let mut bytes = bytes_of(heap, &plan)?;
+    let mut bytes = bytes_of(heap, plan)?;
     let mut board = RamBoard::new(&mut bytes);
     put_chain::<F, RamBoard>(rt, &mut board, pages)?;
     let path = down_to(heap, pages, 0)?;
@@ -57,9 +55,14 @@ fn whole_table<F: PageForm + Copy>(
         (false, 0, pages, 12),
     ] {
         put_entry::<F, RamBoard>(rt, &mut board, 0, 0, in_chain(0), link_word(last, next))?;
-        let tag = in_chain(entry);
+        let walk = Walk {
+            tag: in_chain(entry),
+            long_stop: false,
+            number,
+            path: &path,
+        };
         let setting = format!(in heap; "{pages} pages, last {last}, pointer {next}")?;
-        answers(rt, heap, &board, &plan, tag, false, number, &path, &setting)?;
+        answers(rt, heap, &board, plan, walk, &setting)?;
     }
     Ok(())
 }
@@ -67,10 +70,10 @@ fn whole_table<F: PageForm + Copy>(
 // P is 32 and 128 in 2K with exponents 16 and 18, and 16 and 128 in 4K with exponents 16 and 19.
 #[test]
 fn chains_of_the_whole_table(rt: HostRuntime) -> Result<(), Fail> {
-    whole_table(&rt, rt.alloc(), Form2K, 16, 32)?;
-    whole_table(&rt, rt.alloc(), Form2K, 18, 128)?;
-    whole_table(&rt, rt.alloc(), Form4K, 16, 16)?;
-    whole_table(&rt, rt.alloc(), Form4K, 19, 128)
+    whole_table(&rt, rt.alloc(), &plan_of(Form2K, 16, 0)?, 32)?;
+    whole_table(&rt, rt.alloc(), &plan_of(Form2K, 18, 0)?, 128)?;
+    whole_table(&rt, rt.alloc(), &plan_of(Form4K, 16, 0)?, 16)?;
+    whole_table(&rt, rt.alloc(), &plan_of(Form4K, 19, 0)?, 128)
 }
 
 // Chains of up to 128 entries: an entry that is written anew, with its last flag and its pointer; the entry whose virtual page
@@ -95,37 +98,37 @@ const LONG: [(u16, (bool, u16), u16, (u8, u16), (u8, u16)); 10] = [
 ];
 
 // Writes the chain anew for each case, and walks it with every reserved bit off and then on.
-fn long_chains<F: PageForm + Copy>(
+fn long_chains<F: PageForm>(
     rt: &impl Abort,
     heap: Global,
-    form: F,
-    exponent: u32,
+    plan: &SettledPlan<F>,
 ) -> Result<(), Fail> {
-    let plan = plan_of(form, exponent, 0)?;
-    let mut bytes = bytes_of(heap, &plan)?;
+    let mut bytes = bytes_of(heap, plan)?;
     let mut board = RamBoard::new(&mut bytes);
     for (anew, (last, next), entry, (number_on, lowest_on), (number_off, lowest_off)) in LONG {
         put_chain::<F, RamBoard>(rt, &mut board, 128)?;
-        put_entry::<F, RamBoard>(
-            rt,
-            &mut board,
-            0,
-            anew,
-            in_chain(anew),
-            link_word(last, next),
-        )?;
+        let link = link_word(last, next);
+        put_entry::<F, RamBoard>(rt, &mut board, 0, anew, in_chain(anew), link)?;
         let path_on = down_to(heap, 128, lowest_on)?;
         let path_off = down_to(heap, 128, lowest_off)?;
-        for _ in 0..2 {
-            let tag = in_chain(entry);
-            let setting = "128 pages";
-            answers(
-                rt, heap, &board, &plan, tag, true, number_on, &path_on, setting,
-            )?;
-            answers(
-                rt, heap, &board, &plan, tag, false, number_off, &path_off, setting,
-            )?;
-            turn_reserved_bits_on::<F, RamBoard>(rt, &mut board, 0, 128)?;
+        let on = Walk {
+            tag: in_chain(entry),
+            long_stop: true,
+            number: number_on,
+            path: &path_on,
+        };
+        let off = Walk {
+            long_stop: false,
+            number: number_off,
+            path: &path_off,
+            ..on
+        };
+        for walk in [on, off] {
+            answers(rt, heap, &board, plan, walk, "reserved bits are off")?;
+        }
+        turn_reserved_bits_on::<F, RamBoard>(rt, &mut board, 0, 128)?;
+        for walk in [on, off] {
+            answers(rt, heap, &board, plan, walk, "reserved bits are on")?;
         }
     }
     Ok(())
@@ -134,8 +137,8 @@ fn long_chains<F: PageForm + Copy>(
 // P is 128 in 2K with exponent 18 and in 4K with exponent 19.
 #[test]
 fn chains_of_127_entries_and_more(rt: HostRuntime) -> Result<(), Fail> {
-    long_chains(&rt, rt.alloc(), Form2K, 18)?;
-    long_chains(&rt, rt.alloc(), Form4K, 19)
+    long_chains(&rt, rt.alloc(), &plan_of(Form2K, 18, 0)?)?;
+    long_chains(&rt, rt.alloc(), &plan_of(Form4K, 19, 0)?)
 }
 
 // An entry that differs and points to itself is compared P times with the long-stop bit off (12), and 127 times with it on
@@ -156,11 +159,14 @@ fn round_one_entry<F: PageForm, S: Storage>(
         (true, 3, 0, 1),
     ] {
         let path = vec![in heap; 3u16; count]?;
-        let tag = in_chain(entry);
+        let walk = Walk {
+            tag: in_chain(entry),
+            long_stop,
+            number,
+            path: &path,
+        };
         let setting = "an entry that points to itself";
-        answers(
-            rt, heap, storage, plan, tag, long_stop, number, &path, setting,
-        )?;
+        answers(rt, heap, storage, plan, walk, setting)?;
     }
     Ok(())
 }

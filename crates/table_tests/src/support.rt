@@ -10,7 +10,7 @@ use std::process::Abort;
 use std::test::Fail;
 use storage::words::{ReadStorage, Storage};
 
-// A plan that has to settle.
+// A plan that has to settle. unit_tests has these lines too.
 pub(crate) fn plan_of<F: PageForm + Copy>(
     form: F,
     exponent: u32,
@@ -49,6 +49,9 @@ pub(crate) fn page_of(entry: u16, tag: Tag) -> PageEntry {
     }
 }
 
+// The words of a table are built here and in unit_tests too. A crate for so few lines is no plainer: both would stand on it, and
+// it would have contracts of its own.
+//
 // Word 0 of an entry. Bit b counts 2^(31 - b): the key ends at bit 1, the segment ID at bit 14, and the page number at bit 31
 // in 2K and at bit 30 in 4K.
 pub(crate) fn tag_word<F: PageForm>(key: u8, tag: Tag) -> u32 {
@@ -139,45 +142,49 @@ pub(crate) fn turn_reserved_bits_on<F: PageForm, S: Storage>(
     Ok(())
 }
 
-// Checks what came of a walk: the number of its refusal, 0 where the page is found, after it compared these entries. Their
-// count is the count of the outcome, and the last of them the entry that is found, or that was compared last. A failure tells
-// the setting and what the walk asked for.
+// A walk and what comes of it: the virtual page that it asks for, the long-stop bit, which goes with any page, the number of the
+// refusal, 0 where the page is found, and the entries that are compared.
+#[derive(Clone, Copy)]
+pub(crate) struct Walk<'a> {
+    pub tag: Tag,
+    pub long_stop: bool,
+    pub number: u8,
+    pub path: &'a [u16],
+}
+
+// Checks what came of a walk. As many entries are compared as are listed, and the last of them is the entry that is found, or
+// that was compared last. A failure tells the setting and what the walk asked for.
 pub(crate) fn comes_to(
     rt: &impl Abort,
     outcome: Result<Found, Fault>,
-    tag: Tag,
-    long_stop: bool,
-    number: u8,
-    path: &[u16],
+    walk: Walk<'_>,
     setting: &str,
 ) {
+    let Walk {
+        tag,
+        long_stop,
+        number,
+        path,
+    } = walk;
     let Tag { segment, page } = tag;
     let (given, compared, last) = match outcome {
         Ok(found) => {
-            let expected = page_of(found.entry, tag);
             assert_eq!(rt;
                 found.page,
-                expected,
+                page_of(found.entry, tag),
                 "{setting}: segment {segment}, page {page}, long-stop bit {long_stop}"
             );
             (0, found.compared, Some(found.entry))
         }
-        Err(fault) => (fault.refusal.number(), fault.compared, fault.last),
+        Err(fault) => (
+            fault.refusal.number(),
+            fault.compared.count,
+            fault.compared.last,
+        ),
     };
     assert_eq!(rt;
-        given,
-        number,
-        "{setting}: segment {segment}, page {page}, long-stop bit {long_stop}"
-    );
-    let count = usize::from(compared);
-    assert_eq!(rt;
-        count,
-        path.len(),
-        "{setting}: segment {segment}, page {page}, long-stop bit {long_stop}"
-    );
-    assert_eq!(rt;
-        last,
-        path.last().copied(),
+        (given, usize::from(compared), last),
+        (number, path.len(), path.last().copied()),
         "{setting}: segment {segment}, page {page}, long-stop bit {long_stop}"
     );
 }
@@ -188,21 +195,17 @@ pub(crate) fn answers<F: PageForm, S: ReadStorage>(
     heap: Global,
     storage: &S,
     plan: &SettledPlan<F>,
-    tag: Tag,
-    long_stop: bool,
-    number: u8,
-    path: &[u16],
+    walk: Walk<'_>,
     setting: &str,
 ) -> Result<(), Fail> {
+    let Walk { tag, long_stop, .. } = walk;
     let Tag { segment, page } = tag;
-    let outcome = find_page(storage, plan, tag, long_stop);
-    comes_to(rt, outcome, tag, long_stop, number, path, setting);
+    comes_to(rt, find_page(storage, plan, tag, long_stop), walk, setting);
     let trace = trace_page(heap, storage, plan, tag, long_stop)?;
-    comes_to(rt, trace.outcome, tag, long_stop, number, path, setting);
-    let entries = trace.entries.as_slice();
+    comes_to(rt, trace.outcome, walk, setting);
     assert_eq!(rt;
-        entries,
-        path,
+        trace.entries.as_slice(),
+        walk.path,
         "{setting}: segment {segment}, page {page}, long-stop bit {long_stop}"
     );
     Ok(())
@@ -210,9 +213,5 @@ pub(crate) fn answers<F: PageForm, S: ReadStorage>(
 
 // The entries of a table from the highest down to the lowest that is given.
 pub(crate) fn down_to(heap: Global, pages: u16, lowest: u16) -> Result<Vec<u16>, AllocError> {
-    let mut path = Vec::new(heap);
-    for entry in (lowest..pages).rev() {
-        path.push(entry)?;
-    }
-    Ok(path)
+    (lowest..pages).rev().collect(heap)
 }

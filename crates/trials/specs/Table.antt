@@ -79,11 +79,11 @@ trials =
 
 abbrev accepted : ℕ → ℕ → Option ℕ → TrialOutcome
 accepted value compared last =
-    record { answer = Ok (record { value = value; compared = compared; last = last }); exceptions = 0 }
+    record { answer = Ok (record { value = value; compared = record { count = compared; last = last } }); exceptions = 0 }
 
 abbrev refused : Refusal → ℕ → Option ℕ → ℕ → TrialOutcome
 refused r compared last exceptions =
-    record { answer = Err (record { refusal = r; compared = compared; last = last }); exceptions = exceptions }
+    record { answer = Err (record { refusal = r; compared = record { count = compared; last = last } }); exceptions = exceptions }
 
 abbrev pub numbers2k : PageGeometry
 numbers2k = record { page = 2048; line = 128; width = 17; highest = 127 }

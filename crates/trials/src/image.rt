@@ -1,9 +1,9 @@
 ghost use Rattle.std.specs.Prelude.{◌≡◌, ◌+◌, ◌^◌, ◌<◌, ◌≤◌};
 ghost use Rattle.trials.specs.Image.{target_of, is_four, tag_word, word0, anchor_word, link_word, word2, table_word, bench_word, bench_words, bench_bounded};
-ghost use Rattle.paging.specs.Plan.{page_count};
 
 use crate::bench::{Target, Trial};
 use paging::form::PageForm;
+use paging::smallest::page_count;
 use refusals::refusal::Refusal;
 use storage::words::ReadStorage;
 
@@ -12,13 +12,6 @@ use storage::words::ReadStorage;
 pub struct BenchImage<F> {
     pub form: F,
     pub trial: Trial,
-}
-
-pub(crate) fn page_count<F: PageForm>() -> u32
-    ensures is { result ≡ page_count F.PageForm.sizes 16 }
-    ensures few { result ≤ 32 }
-{
-    65536 / F::geometry().page
 }
 
 fn target_of<F: PageForm>(target: Target) -> u32
@@ -119,6 +112,7 @@ fn bench_word<F: PageForm>(trial: Trial, n: u32) -> u32
     }
 }
 
+#[tactic(auto, using(storage::proofs::Tabulated::tables))]
 impl<F: PageForm> ReadStorage for BenchImage<F> {
     ghost words = { λ s. bench_words F.PageForm.sizes s.trial };
 

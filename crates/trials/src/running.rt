@@ -3,11 +3,12 @@ ghost use Rattle.paging.specs.Numbers.{numbers_of};
 ghost use Rattle.trials.specs.Running.{bench_plan, spot_of, address_of, answer_by, state_by, words_by, outcome_by, outcome_in, outcome_of};
 
 use crate::bench::{BenchRequest, Spot, Trial, TrialOutcome};
-use crate::image::{BenchImage, page_count};
+use crate::image::BenchImage;
 use mmu::unit::MemoryUnit;
 use paging::address::EffectiveAddress;
 use paging::draft::Draft;
 use paging::form::PageForm;
+use paging::smallest::page_count;
 use protection::access_type::AccessType;
 use refusals::refusal::Refusal;
 use storage::copy::copy_words;

@@ -3,7 +3,7 @@ use Rattle.std.proofs.Common.{◌≡◌, ℕ, ◌<◌, ◌≤◌, Bool, true, fa
 use Rattle.refusals.specs.declared.refusal.Refusal.{Refusal}
 use Rattle.paging.specs.Numbers.{PlanNumbers}
 use Rattle.paging.specs.Address.{offset_of}
-use Rattle.paging.specs.Plan.{page_count}
+use Rattle.paging.proofs.Pages.{Wide, Whole, pages_bounded}
 use Rattle.protection.specs.declared.register.SegmentRegister.{SegmentRegister}
 use Rattle.protection.specs.declared.access_type.AccessType.{AccessType}
 use Rattle.protection.specs.Permission.{permitted}
@@ -44,7 +44,7 @@ translated_leads plan ws s address t p e = enters (entry_refusal plan.exponent w
         entry_refusal plan.exponent ws r ≡ None →
         found ≡ Ok l →
         permitted plan.form r l.translation.page s.transaction offset t ≡ allowed →
-        cond {A = Result Place Fault} allowed (Ok (place_at plan.form offset l)) (Err (record { refusal = protection_refusal r; compared = l.compared; last = l.last })) ≡ Ok p →
+        cond {A = Result Place Fault} allowed (Ok (place_at plan.form offset l)) (Err (record { refusal = protection_refusal r; compared = l.compared })) ≡ Ok p →
         Leads plan ws s address t p
     allows l true entered is permits place =
         let same : p ≡ place_at plan.form offset l = cc in
@@ -68,13 +68,18 @@ translated_leads plan ws s address t p e = enters (entry_refusal plan.exponent w
     enters None entered place = finds found entered refl place
     enters (Some refusal) entered place = let z : ◌≡◌ {A = ℕ} 0 1 = cc in absurd (omega arith)
 
-pub translated_near :
+-- a permitted request leads to one of 8,192 pages, under every settled plan
+pub place_near :
     (plan : PlanNumbers) (ws : List ℕ) (s : UnitState) (address : ℕ) (t : AccessType) (p : Place) →
-    page_count plan.form plan.exponent ≤ 8192 →
+    Wide plan.form →
+    Whole plan.form →
+    16 ≤ plan.exponent →
+    plan.exponent ≤ 24 →
     EachNear s.buffers →
     translated plan ws s address t ≡ Ok p →
     p.page < 8192
-translated_near plan ws s address t p few near e =
+place_near plan ws s address t p wide whole large small near e =
+    let few = (pages_bounded plan.form plan.exponent wide whole large small).1 in
     let leads = translated_leads plan ws s address t p e in
     let low = located_near plan ws s (tag_at plan.form (segment_at s address) address) leads.found few near leads.is in
     subst (λ (x : Place). x.page < 8192) (sym leads.place) low

@@ -87,7 +87,7 @@ judged-plain f r transaction offset t (Ok l) = ways (permitted f r l.translation
   where
     ways :
         (b : Bool) →
-        plain_place (cond {A = Result Place Fault} b (Ok (place_at f offset l)) (Err (record { refusal = protection_refusal r; compared = l.compared; last = l.last })))
+        plain_place (cond {A = Result Place Fault} b (Ok (place_at f offset l)) (Err (record { refusal = protection_refusal r; compared = l.compared })))
         ≡ cond {A = Result Spot Refusal}
         b
         (Ok (l.translation.entry * f.page + place_in_page f offset, l.translation.entry))

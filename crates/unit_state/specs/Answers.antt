@@ -21,7 +21,7 @@ answer_value (Err e) = 0
 
 -- what a request that walks no table answers, by the rule that refuses it, if one does
 abbrev pub answered : Option Refusal → ℕ → Answer
-answered None value = Ok (record { value = value; compared = 0; last = None })
+answered None value = Ok (record { value = value; compared = record { count = 0; last = None } })
 answered (Some r) value = Err (uncompared r)
 
 -- what a call gives, by the rule that refuses it, if one does

@@ -21,10 +21,10 @@ use Rattle.unit_state.specs.Marks.{used_page}
 use Rattle.unit_state.specs.Translation.{translated, translated_state}
 
 abbrev pub accepts : Place → ℕ → Answer
-accepts p value = Ok (record { value = value; compared = p.compared; last = p.last })
+accepts p value = Ok (record { value = value; compared = p.compared })
 
 abbrev pub refuses : Place → Refusal → Answer
-refuses p r = Err (record { refusal = r; compared = p.compared; last = p.last })
+refuses p r = Err (record { refusal = r; compared = p.compared })
 
 -- what the access to storage makes of a place
 abbrev pub loaded_from : Place → Result ℕ Refusal → Answer

@@ -46,8 +46,8 @@ kept_of x = record { entry = x.entry; page = x.page }
 -- A hit compares no table entry. What a walk found comes with its count, and the match as the last entry; a walk that found
 -- nothing is refused as it is.
 abbrev pub located_by : Option Translation → Outcome → Result Located Fault
-located_by (Some t) r = Ok (record { translation = t; compared = 0; last = None })
-located_by None (Ok x) = Ok (record { translation = kept_of x; compared = x.compared; last = Some x.entry })
+located_by (Some t) r = Ok (record { translation = t; compared = record { count = 0; last = None } })
+located_by None (Ok x) = Ok (record { translation = kept_of x; compared = record { count = x.compared; last = Some x.entry } })
 located_by None (Err e) = Err e
 
 -- A successful walk is kept.
@@ -79,7 +79,6 @@ place_at f offset l =
       address = record { number = l.translation.entry * f.page + place_in_page f offset };
       page = l.translation.entry;
       compared = l.compared;
-      last = l.last;
     }
 
 abbrev pub judged :
@@ -88,7 +87,7 @@ judged f r transaction offset t (Ok l) =
     cond
     (permitted f r l.translation.page transaction offset t)
     (Ok (place_at f offset l))
-    (Err (record { refusal = protection_refusal r; compared = l.compared; last = l.last }))
+    (Err (record { refusal = protection_refusal r; compared = l.compared }))
 judged f r transaction offset t (Err e) = Err e
 
 abbrev pub refused_or : {X : Type 0} → Option Refusal → Result X Fault → Result X Fault

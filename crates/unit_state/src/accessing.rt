@@ -25,7 +25,6 @@ impl Place {
         Access {
             value,
             compared: self.compared,
-            last: self.last,
         }
     }
 
@@ -36,13 +35,13 @@ impl Place {
         Fault {
             refusal,
             compared: self.compared,
-            last: self.last,
         }
     }
 }
 
 impl UnitState {
     // Loads where the translation leads to, and marks the page.
+    #[tactic(auto, using(crate::proofs::Inverting::place_near))]
     pub fn load_at<F: PageForm, S: ReadStorage>(
         &mut self,
         storage: &S,
@@ -60,11 +59,12 @@ impl UnitState {
         let value = load_unit(storage, place.address.number, width).map_err(|refusal| place.refuse(
             refusal,
         ))?;
-        self.use_page(u32::from(place.page), false);
+        self.use_page(u32::from(place.page), AccessType::Load);
         Ok(place.accept(value))
     }
 
     // Stores a value that fits its width where the translation leads to, and marks the page.
+    #[tactic(auto, using(crate::proofs::Inverting::place_near))]
     pub fn store_at<F: PageForm, S: Storage>(
         &mut self,
         storage: &mut S,
@@ -85,7 +85,7 @@ impl UnitState {
         store_unit(storage, place.address.number, width, value).map_err(|refusal| place.refuse(
             refusal,
         ))?;
-        self.use_page(u32::from(place.page), true);
+        self.use_page(u32::from(place.page), AccessType::Store);
         Ok(place.accept(0))
     }
 

@@ -10,6 +10,7 @@ use crate::state::UnitState;
 use crate::translation::{Located, Place};
 use page_table::entry::Tag;
 use page_table::finding::find_page;
+use page_table::walk::Compared;
 use paging::address::{EffectiveAddress, RealAddress, VirtualAddress};
 use paging::form::PageForm;
 use paging::plan::SettledPlan;
@@ -47,7 +48,6 @@ fn place_in<F: PageForm>(located: Located, address: VirtualAddress) -> Place
         address: RealAddress { number },
         page,
         compared: located.compared,
-        last: located.last,
     }
 }
 
@@ -66,8 +66,7 @@ impl UnitState {
         if let Some(translation) = self.buffers.look_up(tag) {
             return Ok(Located {
                 translation,
-                compared: 0,
-                last: None,
+                compared: Compared::default(),
             });
         }
         let found = find_page(storage, plan, tag, self.long_stop)?;
@@ -78,8 +77,10 @@ impl UnitState {
         self.buffers.load(translation);
         Ok(Located {
             translation,
-            compared: found.compared,
-            last: Some(found.entry),
+            compared: Compared {
+                count: found.compared,
+                last: Some(found.entry),
+            },
         })
     }
 

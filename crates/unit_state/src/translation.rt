@@ -1,13 +1,12 @@
+use page_table::walk::Compared;
 use paging::address::RealAddress;
 use tlb::buffers::Translation;
 
-// Where a virtual page lies, how many table entries were compared to find it, and the last of them: none on a hit of the
-// look-aside buffers.
+// Where a virtual page lies, and which table entries were compared to find it: none on a hit of the look-aside buffers.
 #[derive(Clone, Copy)]
 pub struct Located {
     pub translation: Translation,
-    pub compared: u16,
-    pub last: Option<u16>,
+    pub compared: Compared,
 }
 
 // The real address of a permitted request, its real page, and how that was found.
@@ -15,6 +14,5 @@ pub struct Located {
 pub struct Place {
     pub address: RealAddress,
     pub page: u16,
-    pub compared: u16,
-    pub last: Option<u16>,
+    pub compared: Compared,
 }

@@ -20,15 +20,16 @@ fn effective_addresses_name_a_register(rt: HostRuntime) {
     }
 }
 
-// Checks the page number, the place in the page and the line of offsets in a segment.
-fn lie_in<F: PageForm>(rt: &impl Abort, segment: u16, rows: &[(u32, u32, u32, u32)]) {
-    for (offset, page, place, line) in rows {
-        let offset = *offset;
-        assert!(rt; segment < 0x1000 && offset < 0x1000_0000);
-        let address = VirtualAddress { segment, offset };
-        assert_eq!(rt; address.page_number::<F>(), *page, "offset {offset}");
-        assert_eq!(rt; address.place_in_page::<F>(), *place, "offset {offset}");
-        assert_eq!(rt; address.line::<F>(), *line, "offset {offset}");
+// Checks the page number, the place in the page and the line of offsets, in the first segment and in the last.
+fn lie_in<F: PageForm>(rt: &impl Abort, rows: &[(u32, u32, u32, u32)]) {
+    for &(offset, page, place, line) in rows {
+        assert!(rt; offset < 0x1000_0000);
+        for segment in [0, 0xfff] {
+            let address = VirtualAddress { segment, offset };
+            assert_eq!(rt; address.page_number::<F>(), page, "offset {offset}");
+            assert_eq!(rt; address.place_in_page::<F>(), place, "offset {offset}");
+            assert_eq!(rt; address.line::<F>(), line, "offset {offset}");
+        }
     }
 }
 
@@ -49,8 +50,7 @@ fn virtual_addresses_in_pages_of_2048(rt: HostRuntime) {
         (0x0fff_f800, 131071, 0, 0),
         (0x0fff_ffff, 131071, 2047, 15),
     ];
-    lie_in::<Form2K>(&rt, 0, &rows);
-    lie_in::<Form2K>(&rt, 0xfff, &rows);
+    lie_in::<Form2K>(&rt, &rows);
 }
 
 // Pages of 4,096 bytes: the last byte of a page is at 4,095, of a line at 255; 2,048 begins the ninth line. The last byte of a
@@ -70,14 +70,16 @@ fn virtual_addresses_in_pages_of_4096(rt: HostRuntime) {
         (0x0fff_f000, 65535, 0, 0),
         (0x0fff_ffff, 65535, 4095, 15),
     ];
-    lie_in::<Form4K>(&rt, 0, &rows);
-    lie_in::<Form4K>(&rt, 0xfff, &rows);
+    lie_in::<Form4K>(&rt, &rows);
 }
 
 fn real_pages<F: PageForm>(rt: &impl Abort, rows: &[(u32, u32)]) {
-    for (number, page) in rows {
-        let address = RealAddress { number: *number };
-        assert_eq!(rt; address.page::<F>(), *page, "address {number}");
+    for &(number, page) in rows {
+        assert_eq!(rt;
+            RealAddress { number }.page::<F>(),
+            page,
+            "address {number}"
+        );
     }
 }
 

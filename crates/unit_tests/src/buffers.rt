@@ -1,13 +1,16 @@
-use crate::support::{Compared, NOTHING, accepted, at, first_is, ordinary, refused, unit_of};
-use crate::tables::{keyed, put_page, put_table, small_table};
+use crate::support::{NOTHING, accepted, at, first_is, ordinary, refused, unit_of, zeros};
+use crate::tables::{keyed, put_table, small_table};
 use boards::ram::RamBoard;
 use lanes::width::Width;
 use mmu::unit::MemoryUnit;
+use page_table::entry::PageEntry;
 use paging::form::{Form2K, Form4K, PageForm};
 use refusals::refusal::Refusal;
+use std::alloc::Global;
 use std::process::Abort;
 use std::test::Fail;
 use storage::words::Storage;
+use unit_state::answer::Compared;
 
 // A virtual page: the register that its segment is in, its page number, and the entry of the table that holds it.
 type Place = (u32, u32, u16);
@@ -61,9 +64,9 @@ fn loads<F: PageForm, S: Storage>(
     places: &[(Place, bool)],
     case: &str,
 ) {
-    for (place, hits) in places {
-        let (register, page, entry) = *place;
-        let compared = if *hits { NOTHING } else { miss(*place) };
+    for &(place, hits) in places {
+        let (register, page, entry) = place;
+        let compared = if hits { NOTHING } else { miss(place) };
         let answer = unit.load(storage, at::<F>(register, page, 0), Width::Word);
         assert_eq!(rt; answer, accepted(0, compared), "{case}: entry {entry}");
     }
@@ -133,10 +136,8 @@ fn class_of_two<F: PageForm + Copy, S: Storage>(
 
 #[test]
 fn a_class_filled_and_refilled(rt: HostRuntime) -> Result<(), Fail> {
-    let mut bytes = vec![in rt.alloc(); 0u8; 65536]?;
-    class_of_two(&rt, Form2K, &mut RamBoard::new(&mut bytes))?;
-    let mut bytes = vec![in rt.alloc(); 0u8; 65536]?;
-    class_of_two(&rt, Form4K, &mut RamBoard::new(&mut bytes))
+    class_of_two(&rt, Form2K, &mut RamBoard::new(&mut zeros(rt.alloc())?))?;
+    class_of_two(&rt, Form4K, &mut RamBoard::new(&mut zeros(rt.alloc())?))
 }
 
 // Stores to A, which protection refuses with 13 on a hit as after a walk.
@@ -195,8 +196,8 @@ fn refused_hits<F: PageForm + Copy, S: Storage>(
     Ok(())
 }
 
-// A walk that finds nothing replaces nothing, and leaves the one used last as it was. Page 05 of segment 0 has anchor 5,
-// which is empty: a page fault that compares nothing. Of A B, where B was used last, C still replaces A.
+// A walk that finds nothing replaces nothing, however often, and leaves the one used last as it was. Page 05 of segment 0 has
+// anchor 5, which is empty: a page fault that compares nothing. Of A B, where B was used last, C still replaces A.
 fn failed_walks<F: PageForm + Copy, S: Storage>(
     rt: &impl Abort,
     form: F,
@@ -251,25 +252,23 @@ fn other_requests<F: PageForm + Copy, S: Storage>(
 
 #[test]
 fn what_refused_requests_leave_in_a_class(rt: HostRuntime) -> Result<(), Fail> {
-    let mut bytes = vec![in rt.alloc(); 0u8; 65536]?;
-    other_requests(&rt, Form2K, &mut RamBoard::new(&mut bytes))?;
-    let mut bytes = vec![in rt.alloc(); 0u8; 65536]?;
-    other_requests(&rt, Form4K, &mut RamBoard::new(&mut bytes))
+    other_requests(&rt, Form2K, &mut RamBoard::new(&mut zeros(rt.alloc())?))?;
+    other_requests(&rt, Form4K, &mut RamBoard::new(&mut zeros(rt.alloc())?))
 }
 
 // There are sixteen classes of their own. Page n of segment 1, for n from 0 to 15, lies in real page n. The anchors, 1 XOR n,
 // all differ, so that the first load of each page compares its entry alone. Then all sixteen are hit.
 fn all_classes<F: PageForm + Copy, S: Storage>(
     rt: &impl Abort,
+    heap: Global,
     form: F,
     storage: &mut S,
 ) -> Result<(), Fail> {
     let mut unit = unit_and_table(rt, form, storage)?;
-    put_table::<F, S>(rt, storage, small_table::<F>(), &[])?;
-    for n in 0u16..16 {
-        let page = keyed(1, u32::from(n), 2);
-        put_page::<F, S>(rt, storage, small_table::<F>(), n, page)?;
-    }
+    let pages: Vec<(u16, PageEntry)> = (0u16..16)
+        .map(|n| (n, keyed(1, u32::from(n), 2)))
+        .collect(heap)?;
+    put_table::<F, S>(rt, storage, small_table::<F>(), &pages)?;
     for hits in [false, true, true] {
         for n in 0u16..16 {
             let place = (1, u32::from(n), n);
@@ -281,8 +280,7 @@ fn all_classes<F: PageForm + Copy, S: Storage>(
 
 #[test]
 fn sixteen_classes(rt: HostRuntime) -> Result<(), Fail> {
-    let mut bytes = vec![in rt.alloc(); 0u8; 65536]?;
-    all_classes(&rt, Form2K, &mut RamBoard::new(&mut bytes))?;
-    let mut bytes = vec![in rt.alloc(); 0u8; 65536]?;
-    all_classes(&rt, Form4K, &mut RamBoard::new(&mut bytes))
+    let heap = rt.alloc();
+    all_classes(&rt, heap, Form2K, &mut RamBoard::new(&mut zeros(heap)?))?;
+    all_classes(&rt, heap, Form4K, &mut RamBoard::new(&mut zeros(heap)?))
 }

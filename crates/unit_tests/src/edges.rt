@@ -1,4 +1,6 @@
-use crate::support::{NOTHING, STORED, accepted, at, first_is, only_marked, ordinary, unit_of};
+use crate::support::{
+    NOTHING, STORED, accepted, at, first_is, only_marked, ordinary, unit_of, up_to, zeros,
+};
 use crate::tables::{Table, first_word, keyed, put_table, small_table};
 use boards::ram::RamBoard;
 use lanes::width::Width;
@@ -54,16 +56,14 @@ fn words_at_end<F: PageForm>(last: u32) -> [u32; 4] {
     ]
 }
 
-// A page has 512 words in 2K, so that the last has number 511, and 1,024 in 4K.
-fn loads<F: PageForm + Copy, S: Storage>(
+// Loads from each of the eight addresses, of the last word of page 20 and the first of page 21.
+fn loads<F: PageForm, S: Storage>(
     rt: &impl Abort,
-    form: F,
+    unit: &mut MemoryUnit<F>,
     storage: &mut S,
-    last: u32,
+    words: [u32; 4],
     first_address: u32,
 ) -> Result<(), Fail> {
-    let mut unit = unit_and_table(rt, form, storage)?;
-    let words = words_at_end::<F>(last);
     for (n, word) in words.into_iter().zip([0x81b2_c3d4, 0xe5f6_8798, 1, 1]) {
         storage.write(n, word, 15)?;
     }
@@ -128,15 +128,18 @@ fn stores_at<F: PageForm, S: Storage>(
     Ok(())
 }
 
-fn stores<F: PageForm + Copy, S: Storage>(
+// A page has 512 words in 2K, so that the last has number 511, and 1,024 in 4K.
+fn widths<F: PageForm + Copy, S: Storage>(
     rt: &impl Abort,
     form: F,
     storage: &mut S,
     last: u32,
     first_address: u32,
 ) -> Result<(), Fail> {
-    let mut unit = unit_and_table(rt, form, storage)?;
     let words = words_at_end::<F>(last);
+    let mut unit = unit_and_table(rt, form, storage)?;
+    loads(rt, &mut unit, storage, words, first_address)?;
+    let mut unit = unit_and_table(rt, form, storage)?;
     let addresses = first_address..0xffff_ffff;
     for (number, left) in addresses.zip(STORES) {
         let address = EffectiveAddress { number };
@@ -149,36 +152,12 @@ fn stores<F: PageForm + Copy, S: Storage>(
 // 107FC and 20FFC. Register 5 is the highest digit.
 #[test]
 fn widths_at_the_end_of_a_page(rt: HostRuntime) -> Result<(), Fail> {
-    let mut bytes = vec![in rt.alloc(); 0u8; 65536]?;
-    loads(
-        &rt,
-        Form2K,
-        &mut RamBoard::new(&mut bytes),
-        511,
-        0x5001_07fc,
-    )?;
-    stores(
-        &rt,
-        Form2K,
-        &mut RamBoard::new(&mut bytes),
-        511,
-        0x5001_07fc,
-    )?;
-    let mut bytes = vec![in rt.alloc(); 0u8; 65536]?;
-    loads(
-        &rt,
-        Form4K,
-        &mut RamBoard::new(&mut bytes),
-        1023,
-        0x5002_0ffc,
-    )?;
-    stores(
-        &rt,
-        Form4K,
-        &mut RamBoard::new(&mut bytes),
-        1023,
-        0x5002_0ffc,
-    )
+    let mut bytes = zeros(rt.alloc())?;
+    let mut board = RamBoard::new(&mut bytes);
+    widths(&rt, Form2K, &mut board, 511, 0x5001_07fc)?;
+    let mut bytes = zeros(rt.alloc())?;
+    let mut board = RamBoard::new(&mut bytes);
+    widths(&rt, Form4K, &mut board, 1023, 0x5002_0ffc)
 }
 
 // The lowest effective address is byte 0 of page 0, through register 0. The highest is the last byte of page 1FFFF in 2K and
@@ -205,7 +184,7 @@ fn lowest_and_highest<F: PageForm + Copy, S: Storage>(
         number: 0xffff_ffff,
     };
     let stored = unit.store(storage, highest, Width::Halfword, 0xcafe);
-    assert_eq!(rt; stored, accepted(0, (2, Some(2))));
+    assert_eq!(rt; stored, accepted(0, up_to(2, 2)));
     assert_eq!(rt; storage.read(first_word::<F>(2) | last), Ok(0x0000_cafe));
     let loaded = unit.load(storage, highest, Width::Byte);
     assert_eq!(rt; loaded, accepted(0xfe, NOTHING));
@@ -214,9 +193,9 @@ fn lowest_and_highest<F: PageForm + Copy, S: Storage>(
 
 #[test]
 fn the_lowest_and_the_highest_address(rt: HostRuntime) -> Result<(), Fail> {
-    let mut bytes = vec![in rt.alloc(); 0u8; 65536]?;
+    let mut bytes = zeros(rt.alloc())?;
     lowest_and_highest(&rt, Form2K, &mut RamBoard::new(&mut bytes), 0x1_ffff, 511)?;
-    let mut bytes = vec![in rt.alloc(); 0u8; 65536]?;
+    let mut bytes = zeros(rt.alloc())?;
     lowest_and_highest(&rt, Form4K, &mut RamBoard::new(&mut bytes), 0xffff, 1023)
 }
 
@@ -241,7 +220,7 @@ fn the_last_page_of_the_largest_storage(rt: HostRuntime) -> Result<(), Fail> {
     let first = at::<Form2K>(10, 0x1_abcd, 1);
     let last = at::<Form2K>(10, 0x1_abcd, 2047);
     let stored = unit.store(&mut board, first, Width::Byte, 0x81);
-    assert_eq!(rt; stored, accepted(0, (2, Some(8191))));
+    assert_eq!(rt; stored, accepted(0, up_to(2, 8191)));
     let stored = unit.store(&mut board, last, Width::Word, 0x9abc_def0);
     assert_eq!(rt; stored, accepted(0, NOTHING));
     assert_eq!(rt; board.read(4_193_792), Ok(0x0081_0000));

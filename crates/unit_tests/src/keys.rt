@@ -1,4 +1,4 @@
-use crate::support::{Compared, NOTHING, accepted, at, first_is, ordinary, refused, unit_of};
+use crate::support::{NOTHING, accepted, at, first_is, ordinary, refused, unit_of, up_to, zeros};
 use crate::tables::{first_word, keyed, put_table, small_table};
 use boards::ram::RamBoard;
 use lanes::width::Width;
@@ -8,6 +8,7 @@ use refusals::refusal::Refusal;
 use std::process::Abort;
 use std::test::Fail;
 use storage::words::{ReadStorage, Storage};
+use unit_state::answer::Compared;
 use unit_state::answers::Answer;
 
 // In an ordinary segment: the key of the page, the key bit K of the register, and whether loads and stores are permitted.
@@ -53,7 +54,7 @@ fn keeps_to<F: PageForm + Copy, S: Storage>(
     let (key, k, loads, stores) = rule;
     let pages = [(4, keyed(0x123, 0x54, key)), (7, keyed(0x123, 0x74, 2))];
     put_table::<F, S>(rt, storage, small_table::<F>(), &pages)?;
-    let walked = (2, Some(4));
+    let walked = up_to(2, 4);
     let word = first_word::<F>(4) | 64;
     let address = at::<F>(2, 0x54, 0x100);
     storage.write(word, 0x8111_2222, 15)?;
@@ -76,7 +77,7 @@ fn keeps_to<F: PageForm + Copy, S: Storage>(
 
 #[test]
 fn keys_of_ordinary_segments(rt: HostRuntime) -> Result<(), Fail> {
-    let mut bytes = vec![in rt.alloc(); 0u8; 65536]?;
+    let mut bytes = zeros(rt.alloc())?;
     let mut board = RamBoard::new(&mut bytes);
     for rule in RULES {
         let (key, k, _, _) = rule;
@@ -132,8 +133,6 @@ fn two_registers<F: PageForm + Copy, S: Storage>(
 
 #[test]
 fn two_registers_with_one_segment_id(rt: HostRuntime) -> Result<(), Fail> {
-    let mut bytes = vec![in rt.alloc(); 0u8; 65536]?;
-    two_registers(&rt, Form2K, &mut RamBoard::new(&mut bytes))?;
-    let mut bytes = vec![in rt.alloc(); 0u8; 65536]?;
-    two_registers(&rt, Form4K, &mut RamBoard::new(&mut bytes))
+    two_registers(&rt, Form2K, &mut RamBoard::new(&mut zeros(rt.alloc())?))?;
+    two_registers(&rt, Form4K, &mut RamBoard::new(&mut zeros(rt.alloc())?))
 }

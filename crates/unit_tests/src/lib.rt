@@ -6,7 +6,8 @@
 // rule that its comment states; a refusal stands in a table of cases by its number, as the documents cite it.
 //
 // Helpers take the runtime, the form, the unit and the storage one by one: a struct of them would be made at each call and
-// taken apart in each helper. Loops go over the numbers of pages, registers and words, which are what a unit is asked by.
+// taken apart in each helper. Most tests call one helper in one form and then in the other, and cases and constants of both forms
+// stand side by side. Loops go over the numbers of pages, registers and words, which are what a unit is asked by.
 #[cfg(test)]
 mod addresses;
 #[cfg(test)]

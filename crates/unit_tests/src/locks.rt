@@ -1,4 +1,4 @@
-use crate::support::{NOTHING, accepted, at, first_is, ordinary, refused, special, unit_of};
+use crate::support::{NOTHING, accepted, at, first_is, ordinary, refused, special, unit_of, zeros};
 use crate::tables::{is_2k, locked, put_table, small_table};
 use boards::ram::RamBoard;
 use lanes::width::Width;
@@ -128,7 +128,7 @@ fn lines<F: PageForm + Copy, S: Storage>(
 
 #[test]
 fn lock_bits_of_lines(rt: HostRuntime) -> Result<(), Fail> {
-    let mut bytes = vec![in rt.alloc(); 0u8; 65536]?;
+    let mut bytes = zeros(rt.alloc())?;
     let mut board = RamBoard::new(&mut bytes);
     lines(&rt, Form2K, &mut board, LINES_2K)?;
     lines(&rt, Form4K, &mut board, LINES_4K)
@@ -219,17 +219,13 @@ fn shared_segment<F: PageForm + Copy, S: Storage>(
 
 #[test]
 fn an_ordinary_and_a_special_register_with_one_segment_id(rt: HostRuntime) -> Result<(), Fail> {
-    let mut bytes = vec![in rt.alloc(); 0u8; 65536]?;
-    let mut board = RamBoard::new(&mut bytes);
-    shared_segment(&rt, Form2K, &mut board)?;
-    let mut bytes = vec![in rt.alloc(); 0u8; 65536]?;
-    let mut board = RamBoard::new(&mut bytes);
-    shared_segment(&rt, Form4K, &mut board)
+    shared_segment(&rt, Form2K, &mut RamBoard::new(&mut zeros(rt.alloc())?))?;
+    shared_segment(&rt, Form4K, &mut RamBoard::new(&mut zeros(rt.alloc())?))
 }
 
 #[test]
 fn transaction_ids_of_special_segments(rt: HostRuntime) -> Result<(), Fail> {
-    let mut bytes = vec![in rt.alloc(); 0u8; 65536]?;
+    let mut bytes = zeros(rt.alloc())?;
     let mut board = RamBoard::new(&mut bytes);
     refused_after_walk(&rt, Form2K, &mut board)?;
     refused_after_walk(&rt, Form4K, &mut board)?;

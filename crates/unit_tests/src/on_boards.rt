@@ -1,3 +1,4 @@
+use crate::support::zeros;
 use boards::interleaved::Interleaved;
 use boards::ram::RamBoard;
 use boards::stacked::Stacked;
@@ -24,7 +25,7 @@ pub(crate) fn on_ram_board<T: BoardTest>(
     heap: Global,
     test: &T,
 ) -> Result<Vec<u8>, Fail> {
-    let mut bytes = vec![in heap; 0u8; 65536]?;
+    let mut bytes = zeros(heap)?;
     test.on(rt, &mut RamBoard::new(&mut bytes))?;
     assert_eq!(rt; bytes.len(), 65536);
     Ok(bytes)
@@ -37,7 +38,7 @@ pub(crate) fn on_dump_board<T: BoardTest>(
     pages: &[u16],
     test: &T,
 ) -> Result<Vec<u8>, Fail> {
-    let mut bytes = vec![in heap; 0u8; 65536]?;
+    let mut bytes = zeros(heap)?;
     let mut board = DumpBoard::new(&mut bytes);
     board.fill(pages)?;
     test.on(rt, &mut board)?;

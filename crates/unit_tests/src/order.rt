@@ -1,6 +1,6 @@
 use crate::support::{
-    Compared, LOADED, NOTHING, STORED, Step, accepted, at, barred, first_is, only_marked, ordinary,
-    refused, special, unit_of, words_of,
+    LOADED, NOTHING, STORED, Step, accepted, at, barred, first_is, only_marked, ordinary, refused,
+    special, unit_of, up_to, words_of, zeros,
 };
 use crate::tables::{keyed, locked, put_anchor, put_link, put_table, small_table};
 use boards::ram::RamBoard;
@@ -13,6 +13,7 @@ use std::alloc::Global;
 use std::process::Abort;
 use std::test::Fail;
 use storage::words::Storage;
+use unit_state::answer::Compared;
 use unit_state::answers::{answer_number, answer_value};
 
 // A table, and a unit to go with it. Segment 6 has page 30 in real page 5, key 00; it has anchor 36 hexadecimal, which is 22
@@ -58,6 +59,17 @@ fn unit_of_five<F: PageForm + Copy>(form: F) -> Result<MemoryUnit<F>, Fail> {
 // A request for a byte: the register and the page to ask for, what to do, the refusal and what was compared before it.
 type Refused = (u32, u32, Step, Refusal, Compared);
 
+// What `first_is` says of entries 4 and 5, since a constant cannot call it.
+const ONLY_4: Compared = Compared {
+    count: 1,
+    last: Some(4),
+};
+
+const ONLY_5: Compared = Compared {
+    count: 1,
+    last: Some(5),
+};
+
 const WIDE: Step = Step::Store(0x100);
 
 const STORE: Step = Step::Store(0xff);
@@ -92,14 +104,14 @@ const REFUSED: [Refused; 21] = [
     // K 1 and key 00 permit nothing, but what is not found is no matter of keys
     (2, 0x31, Step::Load, Refusal::PageFault, NOTHING),
     (2, 0x31, STORE, Refusal::PageFault, NOTHING),
-    (2, 0x50, Step::Load, Refusal::PageFault, (1, Some(5))),
-    (2, 0x50, STORE, Refusal::PageFault, (1, Some(5))),
+    (2, 0x50, Step::Load, Refusal::PageFault, ONLY_5),
+    (2, 0x50, STORE, Refusal::PageFault, ONLY_5),
     (2, 0x37, Step::Load, Refusal::PointerOutside, NOTHING),
     (2, 0x37, STORE, Refusal::PointerOutside, NOTHING),
-    (2, 0x30, STORE, Refusal::ProtectionRefused, (1, Some(5))),
+    (2, 0x30, STORE, Refusal::ProtectionRefused, ONLY_5),
     (2, 0x30, Step::Load, Refusal::ProtectionRefused, NOTHING),
     // another transaction ID, and neither write bit nor lock bit
-    (4, 0x30, STORE, Refusal::LockRefused, (1, Some(4))),
+    (4, 0x30, STORE, Refusal::LockRefused, ONLY_4),
     (4, 0x30, Step::Load, Refusal::LockRefused, NOTHING),
 ];
 
@@ -110,12 +122,12 @@ fn refuses<F: PageForm, S: Storage>(
     storage: &mut S,
     requests: &[Refused],
 ) {
-    for (register, page, step, refusal, compared) in requests {
-        let address = at::<F>(*register, *page, 1);
+    for &(register, page, step, refusal, compared) in requests {
+        let address = at::<F>(register, page, 1);
         let answer = step.by_effective(unit, storage, address, Width::Byte);
         assert_eq!(rt;
             answer,
-            refused(*refusal, *compared),
+            refused(refusal, compared),
             "register {register}, page {page}"
         );
         assert_eq!(rt; answer_number(&answer), refusal.number());
@@ -137,7 +149,7 @@ fn refuses_endless_chain<F: PageForm, S: Storage>(
     ] {
         unit.write_long_stop(long_stop);
         for step in [Step::Load, STORE] {
-            let request = (2, 0x34, step, refusal, (compared, Some(7)));
+            let request = (2, 0x34, step, refusal, up_to(compared, 7));
             refuses(rt, unit, storage, &[request]);
         }
     }
@@ -197,26 +209,12 @@ fn the_first_rule_that_is_broken_counts(rt: HostRuntime) -> Result<(), Fail> {
     let heap = rt.alloc();
     let mut less = vec![in heap; 0u8; 65532]?;
     let mut short = RamBoard::new(&mut less);
-    let mut bytes = vec![in heap; 0u8; 65536]?;
-    first_rule(
-        &rt,
-        heap,
-        Form2K,
-        &mut RamBoard::new(&mut bytes),
-        &mut short,
-        32,
-        17,
-    )?;
-    let mut bytes = vec![in heap; 0u8; 65536]?;
-    first_rule(
-        &rt,
-        heap,
-        Form4K,
-        &mut RamBoard::new(&mut bytes),
-        &mut short,
-        16,
-        1,
-    )
+    let mut bytes = zeros(heap)?;
+    let mut board = RamBoard::new(&mut bytes);
+    first_rule(&rt, heap, Form2K, &mut board, &mut short, 32, 17)?;
+    let mut bytes = zeros(heap)?;
+    let mut board = RamBoard::new(&mut bytes);
+    first_rule(&rt, heap, Form4K, &mut board, &mut short, 16, 1)
 }
 
 // An accepted load marks its real page referenced, and an accepted store changed too, after a walk as on a hit. A refused
@@ -259,8 +257,6 @@ fn marks<F: PageForm + Copy, S: Storage>(
 
 #[test]
 fn marks_of_accepted_requests(rt: HostRuntime) -> Result<(), Fail> {
-    let mut bytes = vec![in rt.alloc(); 0u8; 65536]?;
-    marks(&rt, Form2K, &mut RamBoard::new(&mut bytes), 32)?;
-    let mut bytes = vec![in rt.alloc(); 0u8; 65536]?;
-    marks(&rt, Form4K, &mut RamBoard::new(&mut bytes), 16)
+    marks(&rt, Form2K, &mut RamBoard::new(&mut zeros(rt.alloc())?), 32)?;
+    marks(&rt, Form4K, &mut RamBoard::new(&mut zeros(rt.alloc())?), 16)
 }

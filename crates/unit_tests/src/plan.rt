@@ -1,4 +1,4 @@
-use crate::support::unit_of;
+use crate::support::{plan_of, unit_of};
 use paging::draft::Draft;
 use paging::form::{Form2K, Form4K, PageForm};
 use std::process::Abort;
@@ -42,33 +42,24 @@ fn drafts_settle_at_the_edges(rt: HostRuntime) {
     settles_at_the_edges(&rt, Form4K, 255, 256);
 }
 
-fn has_table<F: PageForm + Copy>(
+// Exponents and bases, and where the table starts and how many entries it has.
+fn have_tables<F: PageForm + Copy>(
     rt: &impl Abort,
     form: F,
-    exponent: u32,
-    base: u32,
-    start: u32,
-    entries: u32,
+    rows: &[(u32, u32, u32, u32)],
 ) -> Result<(), Fail> {
-    let draft = Draft {
-        form,
-        exponent,
-        base,
-    };
-    match draft.settle() {
-        Ok(plan) => {
-            let span = plan.table();
-            assert_eq!(rt;
-                span.start.number,
-                start,
-                "exponent {exponent}, base {base}"
-            );
-            assert_eq!(rt; span.entries, entries);
-            assert_eq!(rt; plan.page_count(), entries);
-            Ok(())
-        }
-        Err(refused) => Err(Fail::new(refused.refusal.number())),
+    for &(exponent, base, start, entries) in rows {
+        let plan = plan_of(form, exponent, base)?;
+        let span = plan.table();
+        assert_eq!(rt;
+            span.start.number,
+            start,
+            "exponent {exponent}, base {base}"
+        );
+        assert_eq!(rt; span.entries, entries);
+        assert_eq!(rt; plan.page_count(), entries);
     }
+    Ok(())
 }
 
 // A storage of 2^k bytes has P = 2^k / page length pages, and its table P entries from base * 16 * P on. Pages of 2,048: k 16
@@ -76,25 +67,22 @@ fn has_table<F: PageForm + Copy>(
 // has 16, 255 * 256 = 65,280; k 17 has 32; k 24 has 4,096, 255 * 65,536 = 16,711,680.
 #[test]
 fn tables_start_at_their_base(rt: HostRuntime) -> Result<(), Fail> {
-    for (exponent, base, start, entries) in [
+    let in_2k = [
         (16, 0, 0, 32),
         (16, 1, 512, 32),
         (16, 127, 65024, 32),
         (20, 5, 40960, 512),
         (24, 127, 16646144, 8192),
-    ] {
-        has_table(&rt, Form2K, exponent, base, start, entries)?;
-    }
-    for (exponent, base, start, entries) in [
+    ];
+    have_tables(&rt, Form2K, &in_2k)?;
+    let in_4k = [
         (16, 0, 0, 16),
         (16, 3, 768, 16),
         (16, 255, 65280, 16),
         (17, 1, 512, 32),
         (24, 255, 16711680, 4096),
-    ] {
-        has_table(&rt, Form4K, exponent, base, start, entries)?;
-    }
-    Ok(())
+    ];
+    have_tables(&rt, Form4K, &in_4k)
 }
 
 fn ends_with_the_storage<F: PageForm + Copy>(
@@ -113,20 +101,11 @@ fn ends_with_the_storage<F: PageForm + Copy>(
         (23, 0x80_0000),
         (24, 0x100_0000),
     ] {
-        let draft = Draft {
-            form,
-            exponent,
-            base: highest,
-        };
-        match draft.settle() {
-            Ok(plan) => {
-                let span = plan.table();
-                let end = u64::from(span.start.number) + 16 * u64::from(span.entries);
-                assert_eq!(rt; plan.storage_bytes(), bytes);
-                assert_eq!(rt; end, u64::from(bytes), "exponent {exponent}");
-            }
-            Err(refused) => return Err(Fail::new(refused.refusal.number())),
-        }
+        let plan = plan_of(form, exponent, highest)?;
+        let span = plan.table();
+        let end = u64::from(span.start.number) + 16 * u64::from(span.entries);
+        assert_eq!(rt; plan.storage_bytes(), bytes);
+        assert_eq!(rt; end, u64::from(bytes), "exponent {exponent}");
     }
     Ok(())
 }

@@ -1,4 +1,4 @@
-use crate::support::{Step, at, barred, ordinary, special, unit_of};
+use crate::support::{Step, at, barred, ordinary, special, unit_of, zeros};
 use crate::tables::{keyed, locked, put_anchor, put_link, put_table, small_table};
 use boards::ram::RamBoard;
 use exceptions::registers::Exceptions;
@@ -153,10 +153,9 @@ fn any_two<F: PageForm + Copy, S: Storage>(
 
 #[test]
 fn exceptions_one_after_the_other(rt: HostRuntime) -> Result<(), Fail> {
-    let mut bytes = vec![in rt.alloc(); 0u8; 65536]?;
-    any_two(&rt, rt.alloc(), Form2K, &mut RamBoard::new(&mut bytes))?;
-    let mut bytes = vec![in rt.alloc(); 0u8; 65536]?;
-    any_two(&rt, rt.alloc(), Form4K, &mut RamBoard::new(&mut bytes))
+    let heap = rt.alloc();
+    any_two(&rt, heap, Form2K, &mut RamBoard::new(&mut zeros(heap)?))?;
+    any_two(&rt, heap, Form4K, &mut RamBoard::new(&mut zeros(heap)?))
 }
 
 // Bits that are on stay on. All five and the bit for more than one are 20000 + 8 + 40 + 2 + 1 + 10 = 2005B, and 2105B where
@@ -190,10 +189,8 @@ fn all_five<F: PageForm + Copy, S: Storage>(
 
 #[test]
 fn exceptions_that_add_up(rt: HostRuntime) -> Result<(), Fail> {
-    let mut bytes = vec![in rt.alloc(); 0u8; 65536]?;
-    all_five(&rt, Form2K, &mut RamBoard::new(&mut bytes))?;
-    let mut bytes = vec![in rt.alloc(); 0u8; 65536]?;
-    all_five(&rt, Form4K, &mut RamBoard::new(&mut bytes))
+    all_five(&rt, Form2K, &mut RamBoard::new(&mut zeros(rt.alloc())?))?;
+    all_five(&rt, Form4K, &mut RamBoard::new(&mut zeros(rt.alloc())?))
 }
 
 // Requests by effective address that are refused with 4, 5, 6, 11 and 12, or accepted: 4 in a storage of another size, 5 for
@@ -271,7 +268,7 @@ fn raises_nothing<F: PageForm + Copy, S: Storage, T: Storage>(
 
 #[test]
 fn refusals_that_raise_nothing(rt: HostRuntime) -> Result<(), Fail> {
-    let mut bytes = vec![in rt.alloc(); 0u8; 65536]?;
+    let mut bytes = zeros(rt.alloc())?;
     let mut less = vec![in rt.alloc(); 0u8; 65532]?;
     let mut short = RamBoard::new(&mut less);
     raises_nothing(&rt, Form2K, &mut RamBoard::new(&mut bytes), &mut short)?;

@@ -1,4 +1,6 @@
-use crate::support::{LOADED, NOTHING, STORED, UNMARKED, accepted, only_marked, real_at, unit_of};
+use crate::support::{
+    LOADED, NOTHING, STORED, Step, UNMARKED, accepted, only_marked, real_at, unit_of, zeros,
+};
 use boards::ram::RamBoard;
 use lanes::width::Width;
 use mmu::unit::MemoryUnit;
@@ -21,42 +23,29 @@ fn uses<F: PageForm + Copy, S: Storage>(
     let mut unit = unit_of(form, 16, 0)?;
     only_marked(rt, &unit, pages, &[]);
     assert!(rt; second > 0);
-    assert_eq!(rt;
-        unit.load_real(storage, real_at(second - 1), Width::Byte),
-        accepted(0, NOTHING)
-    );
-    only_marked(rt, &unit, pages, &[(1, LOADED)]);
-    assert_eq!(rt;
-        unit.store_real(storage, real_at(second), Width::Word, 9),
-        accepted(0, NOTHING)
-    );
-    only_marked(rt, &unit, pages, &[(1, LOADED), (2, STORED)]);
-    assert_eq!(rt;
-        unit.load_real(storage, real_at(second), Width::Word),
-        accepted(9, NOTHING)
-    );
-    only_marked(rt, &unit, pages, &[(1, LOADED), (2, STORED)]);
-    assert_eq!(rt;
-        unit.store_real(storage, real_at(second - 1), Width::Byte, 0),
-        accepted(0, NOTHING)
-    );
-    only_marked(rt, &unit, pages, &[(1, STORED), (2, STORED)]);
+    for (step, address, width, value, one, two) in [
+        (Step::Load, second - 1, Width::Byte, 0, LOADED, UNMARKED),
+        (Step::Store(9), second, Width::Word, 0, LOADED, STORED),
+        (Step::Load, second, Width::Word, 9, LOADED, STORED),
+        (Step::Store(0), second - 1, Width::Byte, 0, STORED, STORED),
+    ] {
+        let answer = step.by_real(&mut unit, storage, real_at(address), width);
+        assert_eq!(rt; answer, accepted(value, NOTHING));
+        only_marked(rt, &unit, pages, &[(1, one), (2, two)]);
+    }
     assert_eq!(rt; unit.clear_page_mark(2), Ok(()));
     only_marked(rt, &unit, pages, &[(1, STORED)]);
-    assert_eq!(rt;
-        unit.load_real(storage, real_at(second), Width::Word),
-        accepted(9, NOTHING)
-    );
+    let loaded = unit.load_real(storage, real_at(second), Width::Word);
+    assert_eq!(rt; loaded, accepted(9, NOTHING));
     only_marked(rt, &unit, pages, &[(1, STORED), (2, LOADED)]);
     Ok(())
 }
 
 #[test]
 fn requests_mark_the_page_they_use(rt: HostRuntime) -> Result<(), Fail> {
-    let mut bytes = vec![in rt.alloc(); 0u8; 65536]?;
-    uses(&rt, Form2K, &mut RamBoard::new(&mut bytes), 32, 4096)?;
-    let mut bytes = vec![in rt.alloc(); 0u8; 65536]?;
-    uses(&rt, Form4K, &mut RamBoard::new(&mut bytes), 16, 8192)
+    let heap = rt.alloc();
+    uses(&rt, Form2K, &mut RamBoard::new(&mut zeros(heap)?), 32, 4096)?;
+    uses(&rt, Form4K, &mut RamBoard::new(&mut zeros(heap)?), 16, 8192)
 }
 
 // A unit whose pages 0 and the last are stored to.
@@ -66,14 +55,10 @@ fn used<F: PageForm + Copy, S: Storage>(
     storage: &mut S,
 ) -> Result<MemoryUnit<F>, Fail> {
     let mut unit = unit_of(form, 16, 0)?;
-    assert_eq!(rt;
-        unit.store_real(storage, real_at(0), Width::Byte, 1),
-        accepted(0, NOTHING)
-    );
-    assert_eq!(rt;
-        unit.store_real(storage, real_at(0xffff), Width::Byte, 1),
-        accepted(0, NOTHING)
-    );
+    for address in [0, 0xffff] {
+        let stored = unit.store_real(storage, real_at(address), Width::Byte, 1);
+        assert_eq!(rt; stored, accepted(0, NOTHING));
+    }
     Ok(unit)
 }
 
@@ -103,7 +88,7 @@ fn edges<F: PageForm + Copy, S: Storage>(
 
 #[test]
 fn marks_of_the_last_page_and_beyond(rt: HostRuntime) -> Result<(), Fail> {
-    let mut bytes = vec![in rt.alloc(); 0u8; 65536]?;
+    let mut bytes = zeros(rt.alloc())?;
     edges(&rt, Form2K, &mut RamBoard::new(&mut bytes), 32, 31)?;
     edges(&rt, Form4K, &mut RamBoard::new(&mut bytes), 16, 15)
 }
@@ -117,12 +102,12 @@ fn refusals<F: PageForm + Copy, S: Storage>(
     stores: &[(Width, u32, u32, u8)],
 ) -> Result<(), Fail> {
     let mut unit = unit_of(form, 16, 0)?;
-    for (width, address, value, number) in stores {
-        let stored = unit.store_real(storage, real_at(*address), *width, *value);
-        assert_eq!(rt; answer_number(&stored), *number);
-        if *number != 5 {
-            let loaded = unit.load_real(storage, real_at(*address), *width);
-            assert_eq!(rt; answer_number(&loaded), *number);
+    for &(width, address, value, number) in stores {
+        let stored = unit.store_real(storage, real_at(address), width, value);
+        assert_eq!(rt; answer_number(&stored), number);
+        if number != 5 {
+            let loaded = unit.load_real(storage, real_at(address), width);
+            assert_eq!(rt; answer_number(&loaded), number);
         }
         only_marked(rt, &unit, pages, &[]);
     }
@@ -131,7 +116,7 @@ fn refusals<F: PageForm + Copy, S: Storage>(
 
 #[test]
 fn refused_requests_mark_nothing(rt: HostRuntime) -> Result<(), Fail> {
-    let mut bytes = vec![in rt.alloc(); 0u8; 65536]?;
+    let mut bytes = zeros(rt.alloc())?;
     let outside = [
         (Width::Byte, 0, 0x100, 5),
         (Width::Halfword, 0xffff, 0x1_0000, 5),
@@ -168,18 +153,17 @@ fn restarts<F: PageForm + Copy, S: Storage>(
 ) -> Result<(), Fail> {
     let unit = used(rt, form, storage)?;
     only_marked(rt, &unit, pages, &[(0, STORED), (last, STORED)]);
-    match unit.end().settle() {
-        Ok(plan) => {
-            only_marked(rt, &MemoryUnit::power_on(plan), pages, &[]);
-            Ok(())
-        }
-        Err(refused) => Err(Fail::from(refused.refusal)),
-    }
+    let plan = unit
+        .end()
+        .settle()
+        .map_err(|refused| Fail::from(refused.refusal))?;
+    only_marked(rt, &MemoryUnit::power_on(plan), pages, &[]);
+    Ok(())
 }
 
 #[test]
 fn a_unit_that_starts_anew_has_no_marks(rt: HostRuntime) -> Result<(), Fail> {
-    let mut bytes = vec![in rt.alloc(); 0u8; 65536]?;
+    let mut bytes = zeros(rt.alloc())?;
     restarts(&rt, Form2K, &mut RamBoard::new(&mut bytes), 32, 31)?;
     restarts(&rt, Form4K, &mut RamBoard::new(&mut bytes), 16, 15)
 }

@@ -1,4 +1,4 @@
-use crate::support::{NOTHING, accepted, real_at, refused, unit_of};
+use crate::support::{NOTHING, accepted, real_at, refused, unit_of, zeros};
 use boards::ram::RamBoard;
 use lanes::width::Width;
 use paging::form::{Form2K, Form4K, PageForm};
@@ -52,7 +52,7 @@ fn loads<F: PageForm + Copy, S: Storage>(
 
 #[test]
 fn loads_of_each_width_at_each_offset(rt: HostRuntime) -> Result<(), Fail> {
-    let mut bytes = vec![in rt.alloc(); 0u8; 65536]?;
+    let mut bytes = zeros(rt.alloc())?;
     loads(&rt, Form2K, &mut RamBoard::new(&mut bytes))?;
     loads(&rt, Form4K, &mut RamBoard::new(&mut bytes))
 }
@@ -99,7 +99,7 @@ fn stores<F: PageForm + Copy, S: Storage>(
 
 #[test]
 fn stores_of_each_width_at_each_offset(rt: HostRuntime) -> Result<(), Fail> {
-    let mut bytes = vec![in rt.alloc(); 0u8; 65536]?;
+    let mut bytes = zeros(rt.alloc())?;
     stores(&rt, Form2K, &mut RamBoard::new(&mut bytes))?;
     stores(&rt, Form4K, &mut RamBoard::new(&mut bytes))
 }
@@ -140,7 +140,7 @@ fn ends<F: PageForm + Copy, S: Storage>(
 
 #[test]
 fn requests_at_the_end_of_the_storage(rt: HostRuntime) -> Result<(), Fail> {
-    let mut bytes = vec![in rt.alloc(); 0u8; 65536]?;
+    let mut bytes = zeros(rt.alloc())?;
     ends(&rt, Form2K, &mut RamBoard::new(&mut bytes))?;
     ends(&rt, Form4K, &mut RamBoard::new(&mut bytes))
 }
@@ -149,7 +149,7 @@ fn requests_at_the_end_of_the_storage(rt: HostRuntime) -> Result<(), Fail> {
 // keeps what it held.
 #[test]
 fn values_as_wide_as_their_width(rt: HostRuntime) -> Result<(), Fail> {
-    let mut bytes = vec![in rt.alloc(); 0u8; 65536]?;
+    let mut bytes = zeros(rt.alloc())?;
     let mut board = RamBoard::new(&mut bytes);
     let mut unit = unit_of(Form2K, 16, 0)?;
     for (width, value, number, word) in [

@@ -1,12 +1,14 @@
-use crate::support::{ABSENT, accepted, at, first_is, ordinary, unit_of};
-use crate::tables::{first_word, keyed, put_page, put_table, small_table};
+use crate::support::{ABSENT, accepted, at, first_is, ordinary, unit_of, zeros};
+use crate::tables::{first_word, keyed, put_table, small_table};
 use boards::ram::RamBoard;
 use exceptions::registers::Exceptions;
 use lanes::width::Width;
 use mmu::unit::MemoryUnit;
+use page_table::entry::PageEntry;
 use paging::form::{Form2K, Form4K, PageForm};
 use protection::register::SegmentRegister;
 use refusals::refusal::Refusal;
+use std::alloc::Global;
 use std::process::Abort;
 use std::test::Fail;
 use storage::words::Storage;
@@ -96,14 +98,15 @@ fn registers_read_back_what_was_written(rt: HostRuntime) -> Result<(), Fail> {
 // lies in real page n XOR 5 and begins with the word 80000000 + n. The anchors are n, so each chain has one entry.
 fn by_register<F: PageForm + Copy, S: Storage>(
     rt: &impl Abort,
+    heap: Global,
     form: F,
     storage: &mut S,
 ) -> Result<(), Fail> {
     let mut unit = unit_of(form, 16, 1)?;
-    put_table::<F, S>(rt, storage, small_table::<F>(), &[])?;
+    let pages: Vec<(u16, PageEntry)> = (0u16..16).map(|n| (n ^ 5, keyed(n, 0, 2))).collect(heap)?;
+    put_table::<F, S>(rt, storage, small_table::<F>(), &pages)?;
     for n in 0u16..16 {
         let number = u32::from(n);
-        put_page::<F, S>(rt, storage, small_table::<F>(), n ^ 5, keyed(n, 0, 2))?;
         storage.write(first_word::<F>(number ^ 5), 0x8000_0000 | number, 15)?;
         unit.write_segment(number, ordinary(n, false))?;
     }
@@ -117,8 +120,7 @@ fn by_register<F: PageForm + Copy, S: Storage>(
 
 #[test]
 fn each_register_has_its_own_addresses(rt: HostRuntime) -> Result<(), Fail> {
-    let mut bytes = vec![in rt.alloc(); 0u8; 65536]?;
-    by_register(&rt, Form2K, &mut RamBoard::new(&mut bytes))?;
-    let mut bytes = vec![in rt.alloc(); 0u8; 65536]?;
-    by_register(&rt, Form4K, &mut RamBoard::new(&mut bytes))
+    let heap = rt.alloc();
+    by_register(&rt, heap, Form2K, &mut RamBoard::new(&mut zeros(heap)?))?;
+    by_register(&rt, heap, Form4K, &mut RamBoard::new(&mut zeros(heap)?))
 }

@@ -4,13 +4,14 @@ use mmu::unit::MemoryUnit;
 use paging::address::{EffectiveAddress, RealAddress};
 use paging::draft::Draft;
 use paging::form::PageForm;
+use paging::plan::SettledPlan;
 use protection::register::SegmentRegister;
 use refusals::refusal::Refusal;
-use std::alloc::Global;
+use std::alloc::{AllocError, Global};
 use std::process::Abort;
 use std::test::Fail;
 use storage::words::{ReadStorage, Storage};
-use unit_state::answer::{Access, Fault};
+use unit_state::answer::{Access, Compared, Fault};
 use unit_state::answers::Answer;
 use unit_state::state::PageMark;
 
@@ -30,21 +31,34 @@ pub(crate) const STORED: PageMark = PageMark {
     ..LOADED
 };
 
-// A unit just powered on, from a plan that has to settle.
-pub(crate) fn unit_of<F: PageForm + Copy>(
+// The bytes of a storage of 64 KiB.
+pub(crate) fn zeros(heap: Global) -> Result<Vec<u8>, AllocError> {
+    vec![in heap; 0u8; 65536]
+}
+
+// A plan that has to settle. table_tests has these lines too.
+pub(crate) fn plan_of<F: PageForm + Copy>(
     form: F,
     exponent: u32,
     base: u32,
-) -> Result<MemoryUnit<F>, Fail> {
+) -> Result<SettledPlan<F>, Fail> {
     let draft = Draft {
         form,
         exponent,
         base,
     };
-    match draft.settle() {
-        Ok(plan) => Ok(MemoryUnit::power_on(plan)),
-        Err(refused) => Err(Fail::from(refused.refusal)),
-    }
+    draft
+        .settle()
+        .map_err(|refused| Fail::from(refused.refusal))
+}
+
+// A unit just powered on.
+pub(crate) fn unit_of<F: PageForm + Copy>(
+    form: F,
+    exponent: u32,
+    base: u32,
+) -> Result<MemoryUnit<F>, Fail> {
+    Ok(MemoryUnit::power_on(plan_of(form, exponent, base)?))
 }
 
 pub(crate) const ABSENT: SegmentRegister = SegmentRegister {
@@ -94,33 +108,31 @@ pub(crate) fn at<F: PageForm>(register: u32, page: u32, place: u32) -> Effective
     }
 }
 
-// How many table entries a request compares, and the last of them.
-pub(crate) type Compared = (u16, Option<u16>);
+// What a request compares by real address, on a hit of the look-aside buffers, and before any comparison.
+pub(crate) const NOTHING: Compared = Compared {
+    count: 0,
+    last: None,
+};
 
-// By real address, on a hit of the look-aside buffers, and before any comparison.
-pub(crate) const NOTHING: Compared = (0, None);
+// By a walk of so many entries, up to the one that it compares last.
+pub(crate) fn up_to(count: u16, entry: u16) -> Compared {
+    Compared {
+        count,
+        last: Some(entry),
+    }
+}
 
 // By a walk that finds the entry at the first place of its chain.
 pub(crate) fn first_is(entry: u16) -> Compared {
-    (1, Some(entry))
+    up_to(1, entry)
 }
 
 pub(crate) fn accepted(value: u32, compared: Compared) -> Answer {
-    let (compared, last) = compared;
-    Ok(Access {
-        value,
-        compared,
-        last,
-    })
+    Ok(Access { value, compared })
 }
 
 pub(crate) fn refused(refusal: Refusal, compared: Compared) -> Answer {
-    let (compared, last) = compared;
-    Err(Fault {
-        refusal,
-        compared,
-        last,
-    })
+    Err(Fault { refusal, compared })
 }
 
 // What a request does: it loads, or it stores a value. An `Option` of the value would not say that none of it is a load.
@@ -166,10 +178,10 @@ pub(crate) fn only_marked<F: PageForm>(
     listed: &[(u32, PageMark)],
 ) {
     for page in 0..pages {
-        let mark = match listed.iter().find(|one| one.0 == page) {
-            Some(one) => one.1,
-            None => UNMARKED,
-        };
+        let mark = listed
+            .iter()
+            .find(|one| one.0 == page)
+            .map_or(UNMARKED, |one| one.1);
         assert_eq!(rt; unit.page_mark(page), Ok(mark), "page {page}");
     }
 }

@@ -42,6 +42,9 @@ pub(crate) fn word_number(rt: &impl Abort, table: Table, entry: u32, word: u32) 
     table.start + 4 * entry + word
 }
 
+// The words of a table are built here and in table_tests too. A crate for so few lines is no plainer: both would stand on it, and
+// it would have contracts of its own.
+//
 // Word 0 of an entry. Bit b counts 2^(31 - b): the key ends at bit 1, the segment ID at bit 14, and the page number at bit 31
 // in 2K and at bit 30 in 4K.
 fn tag_word<F: PageForm>(key: u8, tag: Tag) -> u32 {
@@ -88,7 +91,7 @@ pub(crate) fn put_link<S: Storage>(
 }
 
 // Puts a page in front of its chain, which begins at anchor (segment ID XOR page number) mod the count of entries.
-pub(crate) fn put_page<F: PageForm, S: Storage>(
+fn put_page<F: PageForm, S: Storage>(
     rt: &impl Abort,
     storage: &mut S,
     table: Table,
@@ -118,8 +121,8 @@ pub(crate) fn put_table<F: PageForm, S: Storage>(
     for anchor in 0..table.entries {
         put_anchor(rt, storage, table, anchor, true, 0)?;
     }
-    for (entry, page) in pages {
-        put_page::<F, S>(rt, storage, table, *entry, *page)?;
+    for &(entry, page) in pages {
+        put_page::<F, S>(rt, storage, table, entry, page)?;
     }
     Ok(())
 }

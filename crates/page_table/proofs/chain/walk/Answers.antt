@@ -1,4 +1,6 @@
-use Rattle.std.proofs.Common.{◌≡◌, Ok, Err, Break, Continue, sym, ap, ◌∙◌, rules}
+use Rattle.std.proofs.Common.{◌≡◌, ◌-◌, ◌<◌, Ok, Err, None, Break, Continue, sym, ap, ◌∙◌, subst, rules}
+use Rattle.page_table.specs.declared.walk.Compared.{Compared}
+use Rattle.page_table.specs.Search.{chain}
 use Rattle.page_table.proofs.Turns.{one_turn, on_below}
 use Rattle.page_table.proofs.chain.walk.Goals as goal
 
@@ -15,7 +17,15 @@ returns-in-Break g c =
 
 pub follow-preserved : goal.follow-preserved
 follow-preserved g c =
-    let is : c.turn.result ≡ Ok (Continue c.in-Continue.next) = c.in_ok-found.was ∙ ap Ok c.in-Continue.is in (
-      on_below c.args.asked.query _ _ _ c.turn.ensures.going c.follow.invariant.0 (sym is),
-      one_turn _ _ c.args.asked.query _ _ _ _ _ c.follow.invariant.0 c.follow.invariant.1 (sym is ∙ c.turn.ensures.is),
+    let q = c.args.asked.query in
+    let turn = g.H.Hit.turned g.F.PageForm.sizes (g.S.ReadStorage.words c.args.storage.now) q in
+    let is : c.turn.result ≡ Ok (Continue c.in-Continue.next) = c.in_ok-found.was ∙ ap Ok c.in-Continue.is in
+    let P : Compared → Type 0 =
+    λ x. (x.count < q.limit)
+    × (chain g.H.Hit.reached turn q q.limit c.args.first 0 None
+    ≡ chain g.H.Hit.reached turn q (q.limit - x.count) c.in-Continue.next x.count x.last)
+    in
+    subst P (sym c.with-compared.ensures) (
+      on_below q _ _ _ c.turn.ensures.going c.follow.invariant.0 (sym is),
+      one_turn _ _ q _ _ _ _ _ c.follow.invariant.0 c.follow.invariant.1 (sym is ∙ c.turn.ensures.is),
     )

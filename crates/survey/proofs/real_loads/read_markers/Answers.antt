@@ -1,5 +1,4 @@
 use Rattle.std.proofs.Common.{◌≡◌, [], ◌∷◌, ◌++◌, get_or, vec_items, ap, ◌∙◌, rules}
-use Rattle.std.proofs.lemmas.List.{take_all}
 use Rattle.paging.specs.Numbers.{numbers_of}
 use Rattle.survey.specs.Markers.{marker_read, marker_used}
 use Rattle.survey.proofs.Steps.{read_more, used_more, used_all}
@@ -20,8 +19,5 @@ loop-site-preserved g c =
       used_more start ws _ _ _ sites _ no_site c.loop-site-test.true c.loop-site.invariant.2 (c.read_marker.ensures.state ∙ ap (λ p. marker_used (numbers_of p) ws address c.loop-site.unit.state) plan),
     )
 
-pub returns : goal.returns
-returns g c =
-    let all = take_all c.loop-site.site-index c.args.sites.now c.loop-site-test.false in
-    let used = used_all _ _ _ _ _ _ c.loop-site-test.false c.loop-site.invariant.2 in
-    search rules
+pub returns-clause-state : goal.returns-clause-state
+returns-clause-state g c = used_all _ _ _ _ _ _ c.loop-site-test.false c.loop-site.invariant.2

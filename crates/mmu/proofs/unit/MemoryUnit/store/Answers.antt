@@ -7,8 +7,7 @@ use Rattle.unit_state.specs.Requests.{store_answer, after_store}
 use Rattle.unit_state.specs.Laws.{StoreLaws}
 use Rattle.unit_state.proofs.RequestLaws.{store_laws}
 use Rattle.protection.specs.declared.access_type.AccessType.TheVariants.{Store}
-use Rattle.unit_state.specs.Sound.{Sound}
-use Rattle.unit_state.proofs.Locating.{sound_stored, sound_noted}
+use Rattle.unit_state.proofs.Locating.{sound_request}
 use Rattle.mmu.proofs.unit.MemoryUnit.store.Goals as goal
 
 pub returns-clause-laws : goal.returns-clause-laws
@@ -33,13 +32,8 @@ returns-clause-laws g c =
 
 pub invariant_of-self : goal.invariant_of-self
 invariant_of-self g c =
-    let unit = c.args.self.now in
-    let plan = unit.plan in
     let form = g.met.F.PageForm in
-    let sizes = g.F.PageForm.sizes in
-    let words = g.S.ReadStorage.words c.args.storage.now in
-    let pages = pages_bounded sizes plan.exponent form.wide form.whole plan.large plan.small in
-    let used : Sound c.store_at-answer.new.self =
-    subst Sound (sym c.store_at-answer.ensures.state) (sound_stored (numbers_of plan) words unit.state c.args.width c.args.address c.args.value pages.1 unit.sound)
-    in
-    record { sound = subst Sound (sym c.note.ensures) (sound_noted c.store_at-answer.new.self c.store_at-answer.result c.args.address Store used) }
+    let unit = c.args.self.now in
+    record {
+      sound = sound_request (numbers_of unit.plan) _ _ _ Store _ _ _ _ _ _ form.wide form.whole unit.plan.large unit.plan.small unit.sound c.store_at-answer.ensures.state c.note.ensures;
+    }

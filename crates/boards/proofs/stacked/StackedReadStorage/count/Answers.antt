@@ -1,6 +1,0 @@
-use Rattle.std.proofs.Common.{rules}
-use Rattle.storage.proofs.Tabulated.{length-tabulated}
-use Rattle.boards.proofs.stacked.StackedReadStorage.count.Goals as goal
-
-pub returns : goal.returns
-returns g c = simp length-tabulated (search rules)
