@@ -52,13 +52,7 @@ impl Exceptions {
     pub fn none() -> Exceptions
         ensures { result ≡ no_exceptions }
     {
-        Exceptions {
-            causes: Causes::default(),
-            multiple: false,
-            load: false,
-            address: EffectiveAddress { number: 0 },
-            locked: false,
-        }
+        Exceptions::default()
     }
 
     fn raise(&mut self, exception: Exception, address: EffectiveAddress, access: AccessType)

@@ -23,7 +23,7 @@ pub struct Causes {
 // The memory exception register (MER): what was raised, whether more than one exception was, and whether the one whose address
 // is kept was a load; the memory exception address register (MEAR); and whether that is locked: a flag, and no `Option` of the
 // address, which an unlocked register keeps.
-#[derive(Clone, Copy, PartialEq, Eq, Debug)]
+#[derive(Clone, Copy, PartialEq, Eq, Default, Debug)]
 pub struct Exceptions {
     pub causes: Causes,
     pub multiple: bool,

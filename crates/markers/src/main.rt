@@ -40,7 +40,8 @@ fn compare_board(
     Ok(same)
 }
 
-// Checks the image on all four boards under one page form.
+// Checks the image on all four boards under one page form. mapped_markers does so too, but prints other lines: a function for
+// both would take a closure for each line.
 fn check_boards<F: PageForm + Copy>(
     rt: &HostRuntime,
     form: F,

@@ -23,6 +23,8 @@ pub(crate) struct Asked {
 }
 
 impl Asked {
+    // Plan, tag and long-stop bit are what every public search is asked with, so they stay three parameters: a struct of them
+    // would be made at each call.
     pub(crate) fn new<F: PageForm>(plan: &SettledPlan<F>, tag: Tag, long_stop: bool) -> Self
         ensures { result.query ≡ query_of (numbers_of plan.now) long_stop tag }
     {

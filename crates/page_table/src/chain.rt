@@ -89,7 +89,7 @@ fn walk<H: Hit, F: PageForm, S: ReadStorage>(
     }
 }
 
-// A refusal before any entry is compared.
+// A refusal before any entry is compared. By hand, since no derive fills the second field.
 impl From<Refusal> for Fault {
     ghost from_gives = { λ e r. r ≡ uncompared e };
 

@@ -61,3 +61,7 @@ pages_bounded f k w whole h l =
     let long : 2048 ≤ f.page = for_lengths f (λ x. 2048 ≤ x) w whole (λ e m _. pow_mono {i = 11} {j = e} m) in
     let short : f.page ≤ 4096 = for_lengths f (λ x. x ≤ 4096) w whole (λ e _ n. pow_mono {i = e} {j = 12} n) in
     (le-div 16 (2 ^ k) f.page (omega arith) (omega arith), omega (arith, div_below (2 ^ k) f.page 8193 (omega arith) (omega arith)))
+
+-- a storage has at most 2^24 bytes
+pub storage_small : (k : ℕ) → k ≤ 24 → storage_bytes k ≤ 16777216
+storage_small k l = pow_mono {i = k} {j = 24} l

@@ -4,7 +4,7 @@ ghost use Rattle.paging.specs.Address.{register_of, offset_of, page_of, place_in
 use crate::form::PageForm;
 
 // What the processor puts out: four bits that name a segment register, and an offset of 28 bits.
-#[derive(Clone, Copy, PartialEq, Eq, Debug)]
+#[derive(Clone, Copy, PartialEq, Eq, Default, Debug)]
 pub struct EffectiveAddress {
     pub number: u32,
 }

@@ -12,7 +12,7 @@ pub struct BaseNumber<F: PageForm> {
     ghost low: { number ≤ F.PageForm.sizes.highest },
 }
 
-// By hand, since a derived copy would ask that the form can be copied.
+// By hand: tried with `derive_where`, and the check refuses to derive `Clone` for a struct with a ghost field.
 impl<F: PageForm> Clone for BaseNumber<F> {
     ghost is_clone = { λ x y. y ≡ x };
 

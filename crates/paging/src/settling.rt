@@ -72,6 +72,7 @@ impl<F: PageForm> SettledPlan<F> {
     }
 
     // The number of real pages.
+    #[tactic(auto, using(crate::proofs::Pages::pages_whole, crate::proofs::Pages::pages_bounded))]
     pub fn page_count(&self) -> u32
         ensures is { result ≡ page_count F.PageForm.sizes self.now.exponent }
         ensures whole { F.PageForm.sizes.page * result ≡ storage_bytes self.now.exponent }
@@ -82,6 +83,7 @@ impl<F: PageForm> SettledPlan<F> {
     }
 
     // Where the page table lies: whole inside the storage.
+    #[tactic(auto, using(crate::proofs::Pages::table_inside, crate::proofs::Pages::storage_small))]
     pub fn table(&self) -> TableSpan
         ensures start { result.start.number ≡ table_start F.PageForm.sizes self.now.exponent self.now.base.number }
         ensures entries { result.entries ≡ page_count F.PageForm.sizes self.now.exponent }

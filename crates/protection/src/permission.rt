@@ -15,7 +15,7 @@ impl AccessType {
     }
 }
 
-// In an ordinary segment.
+// In an ordinary segment. The key of a page is two bits of its table word, and stays the number that it is in `PageEntry`.
 fn key_permits(page_key: u8, segment_key: bool, access: AccessType) -> bool
     ensures { result ≡ key_permits page_key segment_key access }
 {

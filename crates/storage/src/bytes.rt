@@ -22,6 +22,8 @@ pub fn merge(old: u32, value: u32, mask: u8) -> u32
     ])
 }
 
+// That the word lies in the bytes is asked by each of the three functions of such a word: each is called with another proof of
+// it, and a type for the fact would be made at each call.
 pub fn get_word(bytes: &[u8], n: u32) -> u32
     requires { 4 * n + 3 < length bytes.now }
     ensures { result ≡ word_at bytes.now n }

@@ -23,7 +23,8 @@ pub trait ReadStorage {
 
 // Words that can be written too. The highest bit of the mask is for the word's first byte; a byte whose bit is off stays.
 pub trait Storage: ReadStorage {
-    // the references that it holds, which no write replaces
+    // The references that it holds, which no write replaces. What a call leaves alone, as these, or a unit's plan, stands with
+    // each call: an invariant cannot say that something is unchanged.
     ghost lenders: { Self → Lenders };
 
     fn write(&mut self, n: u32, value: u32, mask: u8) -> Result<(), Refusal>

@@ -76,9 +76,9 @@ fn interleaved_counts(rt: HostRuntime) {
         (4_194_304, 2_097_151, 4_194_302, 18_874_366),
         (4_194_304, 1, 2, 16_777_216),
     ];
-    for (first, second, count, last) in cases.iter() {
-        let (one, other) = counted(&rt, *first, *second);
-        ends(&rt, &Interleaved::new(one, other), *count, *last);
+    for (first, second, count, last) in cases {
+        let (one, other) = counted(&rt, first, second);
+        ends(&rt, &Interleaved::new(one, other), count, last);
     }
 }
 
@@ -98,9 +98,9 @@ fn stacked_counts(rt: HostRuntime) {
         (2_097_152, 2_097_152, 4_194_304, 18_874_367),
         (2_097_152, 2_097_151, 4_194_303, 18_874_366),
     ];
-    for (first, second, count, last) in cases.iter() {
-        let (one, other) = counted(&rt, *first, *second);
-        ends(&rt, &Stacked::new(one, other), *count, *last);
+    for (first, second, count, last) in cases {
+        let (one, other) = counted(&rt, first, second);
+        ends(&rt, &Stacked::new(one, other), count, last);
     }
 }
 

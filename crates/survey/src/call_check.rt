@@ -25,11 +25,8 @@ const READ_WRITE: SegmentRegister = SegmentRegister {
 };
 
 const READ_ONLY: SegmentRegister = SegmentRegister {
-    present: true,
-    barred: false,
-    segment: 5,
-    special: false,
     key: true,
+    ..READ_WRITE
 };
 
 // Calls, carried out by a unit whose registers 1 and 2 are for one segment. The signature is the trait's, as each impl writes it.

@@ -27,6 +27,9 @@ const SHUFFLED: [u16; 32] = [
     23, 4, 17, 30, 11, 24,
 ];
 
+// What a check gives is the clause `Checked` of each function here, and no ghost field: such a field speaks of the fields beside
+// it, and not of the image and the check, which are only lent.
+//
 // Lays an image out on a board of the same size, and checks it there. Heap, draft, image and check are no struct, since the draft
 // goes into a unit and comes back, while the others are only lent.
 fn on_board<F: PageForm + Drop, S: Storage, C: BoardCheck>(

@@ -50,7 +50,9 @@ pub fn markers_in(heap: Global, replies: &[Reply], count: u8) -> Result<Vec<Mark
     ensures { IfOk result (λ v. AllSpelled replies.now count v.items) }
 {
     let mut markers = Vec::new(heap);
-    // not over chunks of four: they would pass over a reply that is missing
+    // Not over `chunks_exact(4)` of `replies.get(..4 * count)`: tried, and the search gives up on the invariant of the loop,
+    // since the words of a part have to be found again in the whole list. A load refused before a missing reply would not be the
+    // error then.
     for j in 0..count {
         let marker = marker_at(replies, 4 * usize::from(j))?;
         markers.push(marker)?;

@@ -48,6 +48,7 @@ pub fn read_marker<F: PageForm, S: ReadStorage>(
 }
 
 // Reads the marker at each site.
+#[tactic(auto, using(crate::proofs::Steps::used_all))]
 pub fn read_markers<F: PageForm, S: ReadStorage>(
     heap: Global,
     unit: &mut MemoryUnit<F>,

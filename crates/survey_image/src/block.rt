@@ -1,7 +1,7 @@
 ghost use Rattle.std.specs.Prelude.{◌≡◌};
 ghost use Rattle.survey_image.specs.declared.block.Block.{Block};
 
-// Four words of an image, from a word on: a marker, or an entry of the page table.
+// Four words of an image, from a word on: a marker, or an entry of the page table. Both are four words by the rules, so an array.
 #[derive(Clone, Copy)]
 pub struct Block {
     pub word: u32,

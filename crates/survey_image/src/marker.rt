@@ -2,7 +2,8 @@ ghost use Rattle.survey_image.specs.Layout.{marker_block};
 
 use crate::block::{AsBlock, Block};
 
-// A survey marker: a name of eight characters, easting and northing in centimetres.
+// A survey marker: a name of eight characters, easting and northing in centimetres. A name always has its eight bytes, which need
+// be no text, so an array.
 #[derive(Clone, Copy, PartialEq, Eq)]
 pub struct Marker {
     pub name: [u8; 8],

@@ -15,6 +15,8 @@ use storage::words::{ReadStorage, Storage};
 // The entry that each of the first eight anchors points to.
 const FIRST_ENTRIES: [u32; 8] = [5, 4, 7, 6, 1, 0, 3, 2];
 
+// The bench image of trials has words of a table too, but that table is another: one function for both would need a crate below
+// the two.
 fn tag_word<F: PageForm>(page: u8) -> u32
     ensures { result ≡ tag_word F.PageForm.sizes page }
 {

@@ -1,3 +1,4 @@
+// What is printed has a layout of its own, so each `Display` is by hand, which is the form that std has for it.
 use paging::address::RealAddress;
 use paging::form::PageForm;
 use std::{fmt, io};

@@ -1,3 +1,4 @@
+// The map has a layout of its own, so its `Display` is by hand, which is the form that std has for it.
 ghost use Rattle.std.specs.Prelude.{◌≡◌};
 ghost use Rattle.survey_report.specs.Map.{symbol_of};
 

@@ -1,4 +1,4 @@
-use crate::support::{are_the_drawn, draft_of, drawn_image};
+use crate::support::{are_the_drawn, drawn_image};
 use boards::ram::RamBoard;
 use paging::form::{Form2K, Form4K};
 use std::process::Abort;
@@ -6,6 +6,7 @@ use std::test::Fail;
 use survey::on_boards::{on_interleaved_banks, on_ram_board};
 use survey::site_check::{SiteCheck, check_image, check_sites};
 use survey_image::sites::SITES;
+use survey_report::plans::plan_of;
 use unit_state::state::PageMark;
 
 // The pages of 2,048 bytes that markers lie in: 800 hex is the first byte of page 1, 1804 and 1FF0 lie in page 3, 2000 begins
@@ -30,13 +31,13 @@ fn only_read(rt: &impl Abort, marks: &[PageMark], listed: &[usize]) {
 #[test]
 fn markers_read_where_the_image_is(rt: HostRuntime) -> Result<(), Fail> {
     let mut image = drawn_image(rt.alloc())?;
-    let (found, draft) = check_image(rt.alloc(), draft_of(Form2K), &mut image, &SITES)?;
+    let (found, draft) = check_image(rt.alloc(), plan_of(Form2K), &mut image, &SITES)?;
     are_the_drawn(&rt, &found.found);
     assert_eq!(rt; found.pages.len(), 32);
     only_read(&rt, &found.pages, &PAGES_2K);
     assert_eq!(rt; draft.exponent, 16);
     assert_eq!(rt; draft.base, 2);
-    let (found, _draft) = check_image(rt.alloc(), draft_of(Form4K), &mut image, &SITES)?;
+    let (found, _draft) = check_image(rt.alloc(), plan_of(Form4K), &mut image, &SITES)?;
     are_the_drawn(&rt, &found.found);
     assert_eq!(rt; found.pages.len(), 16);
     only_read(&rt, &found.pages, &PAGES_4K);
@@ -47,7 +48,7 @@ fn markers_read_where_the_image_is(rt: HostRuntime) -> Result<(), Fail> {
 fn markers_read_from_a_board(rt: HostRuntime) -> Result<(), Fail> {
     let mut image = drawn_image(rt.alloc())?;
     let board = RamBoard::new(&mut image);
-    let (found, _draft) = check_sites(rt.alloc(), draft_of(Form2K), &board, &SITES)?;
+    let (found, _draft) = check_sites(rt.alloc(), plan_of(Form2K), &board, &SITES)?;
     are_the_drawn(&rt, &found.found);
     Ok(())
 }
@@ -56,9 +57,9 @@ fn markers_read_from_a_board(rt: HostRuntime) -> Result<(), Fail> {
 fn markers_read_from_copies_of_the_image(rt: HostRuntime) -> Result<(), Fail> {
     let mut image = drawn_image(rt.alloc())?;
     let check = SiteCheck { sites: &SITES };
-    let (found, _draft) = on_ram_board(rt.alloc(), draft_of(Form4K), &mut image, &check)?;
+    let (found, _draft) = on_ram_board(rt.alloc(), plan_of(Form4K), &mut image, &check)?;
     are_the_drawn(&rt, &found.found);
-    let (found, _draft) = on_interleaved_banks(rt.alloc(), draft_of(Form4K), &mut image, &check)?;
+    let (found, _draft) = on_interleaved_banks(rt.alloc(), plan_of(Form4K), &mut image, &check)?;
     are_the_drawn(&rt, &found.found);
     Ok(())
 }

@@ -1,5 +1,4 @@
 use boards::ram::RamBoard;
-use paging::draft::Draft;
 use std::alloc::Global;
 use std::process::Abort;
 use std::test::Fail;
@@ -7,15 +6,6 @@ use survey::on_boards::IMAGE_BYTES;
 use survey_image::drawing::draw_all;
 use survey_image::marker::Marker;
 use survey_image::sites::SITES;
-
-// The plan of an image: 2^16 bytes, and a page table from base number 2 on.
-pub(crate) fn draft_of<F>(form: F) -> Draft<F> {
-    Draft {
-        form,
-        exponent: 16,
-        base: 2,
-    }
-}
 
 // An image with the twelve markers.
 pub(crate) fn drawn_image(heap: Global) -> Result<Vec<u8>, Fail> {

@@ -10,7 +10,7 @@ use std::process::Abort;
 use std::test::Fail;
 use storage::words::{ReadStorage, Storage};
 
-// A plan that has to settle. unit_tests has these lines too.
+// A plan that has to settle. unit_tests has these lines too: a third crate for them would need a contract and a place of its own.
 pub(crate) fn plan_of<F: PageForm + Copy>(
     form: F,
     exponent: u32,

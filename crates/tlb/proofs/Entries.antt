@@ -2,6 +2,7 @@
 use Rattle.std.proofs.Common.{◌≡◌, ℕ, zero, suc, Bool, true, false, cond, ◌⊎◌, List, length, get_or, set, replicate, Some, None, Option, sym, refl, ap, ◌∙◌, subst, inl, inr, ⊎_elim, arith}
 use Rattle.std.proofs.lemmas.Bool.{cond_both, cases_eq, cases_lt, cases_Bool, both_ways}
 use Rattle.std.proofs.lemmas.List.{get_or-set_same, get_or-set_other, set_past, get_or-replicate, get_or_past}
+use Rattle.std.proofs.lemmas.Option.{none-some, same_Some}
 use Rattle.page_table.specs.declared.entry.Tag.{Tag}
 use Rattle.page_table.specs.Search.{same_tag}
 use Rattle.page_table.proofs.Tags.{same_tag_lem, tag_same}
@@ -72,21 +73,15 @@ each_looked P b tag each =
     class_set (EachIn P) b (class_of tag) (after_hit (class_at b (class_of tag)) tag) each (λ j t e.
     each (class_of tag) j t (ap (λ (ways : List (Option Translation)). get_or ways j None) (sym (after_hit_ways (class_at b (class_of tag)) tag)) ∙ e))
 
-in_some : (s t : Translation) → Some s ≡ Some t → s ≡ t
-in_some s t e = cc
-
 pub each_loaded :
     (P : Translation → Type 0) (b : Buffers) (t : Translation) → Each P b → P t → Each P (loaded_with b t)
 each_loaded P b t each here =
     let k = class_of t.page.tag in
     class_set (EachIn P) b k (replaced_in (class_at b k) t) each (λ j s e.
     ⊎_elim
-    (λ new. subst P (in_some t s (sym new ∙ e)) here)
+    (λ new. subst P (same_Some t s (sym new ∙ e)) here)
     (λ old. each k j s (sym old ∙ e))
     (set_or (class_at b k).ways _ j (Some t) None))
-
-none_some : {X : Type 0} (x : X) → None ≡ Some x → ⊥
-none_some x e = let z : ◌≡◌ {A = ℕ} 0 1 = cc in omega arith
 
 none_at : (j : ℕ) → get_or empty_class.ways j None ≡ None
 none_at zero = refl
@@ -98,8 +93,8 @@ each_empty P i j t e =
     let read : Class → Option Translation = λ c. get_or c.ways j None in
     absurd (
     ⊎_elim
-    (λ inside. none_some t (sym (none_at j) ∙ ap read (sym (get_or-replicate 16 i empty_class no_class inside)) ∙ e))
-    (λ past. none_some t (ap read (sym (get_or_past (replicate 16 empty_class) i no_class past)) ∙ e))
+    (λ inside. none-some t (sym (none_at j) ∙ ap read (sym (get_or-replicate 16 i empty_class no_class inside)) ∙ e))
+    (λ past. none-some t (ap read (sym (get_or_past (replicate 16 empty_class) i no_class past)) ∙ e))
     (cases_lt i 16))
 
 -- an entry that holds a virtual page has its tag
@@ -119,7 +114,7 @@ hit_in_lem c tag t e = first (holds (first_in c) tag) refl e
 
     second : (b : Bool) → holds (second_in c) tag ≡ b → cond b (second_in c) None ≡ Some t → Goal
     second true h is = ((1, is), holds_tag (second_in c) t tag h is)
-    second false h is = absurd (none_some t is)
+    second false h is = absurd (none-some t is)
 
     first :
         (b : Bool) →
@@ -145,7 +140,7 @@ miss_one (Some t) rest tag e = ways (same_tag t.page.tag tag) refl e
   where
     ways :
         (b : Bool) → same_tag t.page.tag tag ≡ b → cond b (Some t) rest ≡ None → (same_tag t.page.tag tag ≡ false) × (rest ≡ None)
-    ways true h is = absurd (none_some t (sym is))
+    ways true h is = absurd (none-some t (sym is))
     ways false h is = (h, is)
 
 -- an entry that does not hold the virtual page of another clashes with it neither way

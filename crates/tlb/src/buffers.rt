@@ -21,7 +21,8 @@ pub struct Class {
     pub used_last: Way,
 }
 
-// The look-aside buffers: a class for each value of the lowest four bits of a page number.
+// The look-aside buffers: a class for each value of the lowest four bits of a page number. The machine has these sixteen, and a
+// unit takes no memory from a heap, so an array.
 #[derive(Clone, Copy)]
 pub struct Buffers {
     pub classes: [Class; 16],

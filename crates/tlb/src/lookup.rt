@@ -9,10 +9,7 @@ use page_table::finding::same_tag;
 fn holds(entry: Option<Translation>, tag: Tag) -> bool
     ensures { result ≡ holding «entry» tag }
 {
-    match entry {
-        Some(translation) => same_tag(translation.page.tag, tag),
-        None => false,
-    }
+    entry.is_some_and(|translation| same_tag(translation.page.tag, tag))
 }
 
 impl Class {

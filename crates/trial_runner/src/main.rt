@@ -11,8 +11,7 @@ use unit_state::answers::answer_number;
 fn run(rt: &HostRuntime) -> anyhow::Result<()> {
     let mut image = vec![in rt.alloc(); 0u8; 65536]?;
     let trials = all_trials();
-    for (i, trial) in trials.iter().enumerate() {
-        let number = i.saturating_add(1);
+    for (number, trial) in (1u8..21).zip(trials.iter()) {
         let reply = match run_trial(Form2K, &mut RamBoard::new(&mut image), trial) {
             Ok(outcome) => answer_number(&outcome.answer),
             Err(refusal) => refusal.number(),

@@ -31,6 +31,7 @@ fn is_four(target: Target) -> bool
     matches!(target, Target::Four)
 }
 
+// survey_image has words of a table too, but that table is another: one function for both would need a crate below the two.
 fn tag_word<F: PageForm>(page: u8) -> u32
     ensures is { result ≡ tag_word F.PageForm.sizes page }
     ensures low { result < 2 ^ 20 }
@@ -38,6 +39,8 @@ fn tag_word<F: PageForm>(page: u8) -> u32
     (5 << 17) + (u32::from(page) << (17 - F::geometry().width))
 }
 
+// Trial and entry stay two parameters, as in the definitions: a struct of both would be made for one call, and taken apart in
+// each function.
 fn word_0<F: PageForm>(trial: Trial, entry: u32) -> u32
     ensures { result ≡ word0 F.PageForm.sizes trial «entry» }
 {
@@ -85,6 +88,7 @@ fn word_2(trial: Trial, entry: u32) -> u32
     }
 }
 
+// The part is the place of the word in its entry, a number and no kind.
 fn table_word<F: PageForm>(trial: Trial, entry: u32, part: u32) -> u32
     ensures { result ≡ table_word F.PageForm.sizes trial «entry» part }
 {

@@ -81,6 +81,7 @@ fn ask_all<F: PageForm, S: Storage>(
 }
 
 // Runs a trial afresh on a storage of 64 KiB, whatever its make: the bench image is laid out on it, and a unit is powered on.
+#[tactic(auto, using(storage::proofs::Tabulated::tables))]
 pub fn run_trial<F: PageForm + Copy, S: Storage>(
     form: F,
     storage: &mut S,

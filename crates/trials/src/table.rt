@@ -134,6 +134,7 @@ const TRIALS: [Trial; 20] = [
 ];
 
 // The twenty trials, in their order.
+#[tactic(auto, using(crate::proofs::Starred::starred_stand))]
 pub fn all_trials() -> [Trial; 20]
     ensures is { result ≡ trials }
     ensures starred { StarredStand }

@@ -2,6 +2,7 @@
 use Rattle.std.proofs.Common.{◌≡◌, ℕ, ◌+◌, ◌*◌, ◌/◌, ◌<◌, ◌≤◌, Bool, true, false, cond, eqb, ltb, List, length, is_ok, Some, None, Ok, Err, Option, Result, sym, refl, ap, ◌∙◌, subst, ⊎_elim, mul_comm, add-mul, one-mul, arith}
 use Rattle.std.proofs.lemmas.Bool.{cond-true, eqb-true, eq-eqb, lt-ltb, both_ways}
 use Rattle.std.proofs.lemmas.Nat.{mul-le, mod_below}
+use Rattle.std.proofs.lemmas.Option.{none-some}
 use Rattle.refusals.specs.declared.refusal.Refusal.{Refusal}
 use Rattle.refusals.specs.declared.refusal.Refusal.TheVariants.{SizeDiffers, SegmentAbsent, SegmentBarred}
 use Rattle.paging.specs.declared.geometry.PageGeometry.{PageGeometry}
@@ -35,9 +36,6 @@ pub record Planned (f : PageGeometry) (k : ℕ) : Type 0 where
   pub whole : Whole f
   pub large : 16 ≤ k
 
-none_some : {X : Type 0} (x : X) → ◌≡◌ {A = Option X} None (Some x) → ⊥
-none_some x e = let z : ◌≡◌ {A = ℕ} 0 1 = cc in omega arith
-
 -- a storage of the plan's size, and a register that is present and not barred
 pub record Entered (k : ℕ) (ws : List ℕ) (r : SegmentRegister) : Type 0 where
   pub sized : 4 * length ws ≡ storage_bytes k
@@ -48,16 +46,16 @@ entered_from : (k : ℕ) (ws : List ℕ) (r : SegmentRegister) → entry_refusal
 entered_from k ws r e = sizes (eqb (4 * length ws) (storage_bytes k)) refl e
   where
     bars : (b : Bool) → r.barred ≡ b → r.present ≡ true → 4 * length ws ≡ storage_bytes k → cond b (Some SegmentBarred) None ≡ None → Entered k ws r
-    bars true h present sized is = absurd (none_some SegmentBarred (sym is))
+    bars true h present sized is = absurd (none-some SegmentBarred (sym is))
     bars false h present sized is = record { sized = sized; present = present; unbarred = h }
 
     segments : (b : Bool) → r.present ≡ b → 4 * length ws ≡ storage_bytes k → cond b (cond r.barred (Some SegmentBarred) None) (Some SegmentAbsent) ≡ None → Entered k ws r
     segments true h sized is = bars r.barred refl h sized is
-    segments false h sized is = absurd (none_some SegmentAbsent (sym is))
+    segments false h sized is = absurd (none-some SegmentAbsent (sym is))
 
     sizes : (b : Bool) → eqb (4 * length ws) (storage_bytes k) ≡ b → cond b (segment_refusal r) (Some SizeDiffers) ≡ None → Entered k ws r
     sizes true h is = segments r.present refl (eqb-true _ _ h) is
-    sizes false h is = absurd (none_some SizeDiffers (sym is))
+    sizes false h is = absurd (none-some SizeDiffers (sym is))
 
 entered_to : (k : ℕ) (ws : List ℕ) (r : SegmentRegister) → Entered k ws r → entry_refusal k ws r ≡ None
 entered_to k ws r entered =

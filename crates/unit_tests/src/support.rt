@@ -36,7 +36,8 @@ pub(crate) fn zeros(heap: Global) -> Result<Vec<u8>, AllocError> {
     vec![in heap; 0u8; 65536]
 }
 
-// A plan that has to settle. table_tests has these lines too.
+// A plan that has to settle. table_tests has these lines too: a third crate for them would need a contract and a place of its
+// own.
 pub(crate) fn plan_of<F: PageForm + Copy>(
     form: F,
     exponent: u32,
@@ -142,6 +143,7 @@ pub(crate) enum Step {
     Store(u32),
 }
 
+// One match for each kind of address: a closure or a table of the two calls would be no plainer.
 impl Step {
     pub(crate) fn by_effective<F: PageForm, S: Storage>(
         self,

@@ -4,6 +4,8 @@ use Rattle.page_table.specs.Search.{chain}
 use Rattle.page_table.proofs.Turns.{one_turn, on_below}
 use Rattle.page_table.proofs.chain.walk.Goals as goal
 
+-- Said here: with `one_turn` and `on_below` named on the function the search leaves two goals open, and gives up on the
+-- loop's. What a turn gives has to be put together from its cases before the lemmas fit.
 pub returns-in_err-found : goal.returns-in_err-found
 returns-in_err-found g c =
     let is : c.turn.result ≡ Err c.in_err-found.field-0.0 = c.in_err-found.was in

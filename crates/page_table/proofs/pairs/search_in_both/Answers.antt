@@ -3,6 +3,8 @@ use Rattle.paging.proofs.Pages.{pages_bounded}
 use Rattle.page_table.proofs.Alike.{linked_alike}
 use Rattle.page_table.proofs.pairs.search_in_both.Goals as goal
 
+-- Said here: with the lemmas named on the function the search leaves the goal open. `linked_alike` asks that the table has
+-- entries, which is a part of what `pages_bounded` says of the plan.
 pub returns-clause-alike : goal.returns-clause-alike
 returns-clause-alike g c =
     let form = g.met.F.PageForm in

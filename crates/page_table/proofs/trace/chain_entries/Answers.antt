@@ -5,6 +5,8 @@ use Rattle.page_table.specs.Laws.{link_at, first_of}
 use Rattle.page_table.proofs.Listing.{listed_run, endless}
 use Rattle.page_table.proofs.trace.chain_entries.Goals as goal
 
+-- Said here: with `listed_run` and `endless` named on the function the search gives up. They take what each iterator says of
+-- every index, as functions that it would have to make up.
 pub returns : goal.returns
 returns g c =
     let ws = g.S.ReadStorage.words c.args.storage.now in

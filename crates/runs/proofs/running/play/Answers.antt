@@ -1,8 +1,10 @@
 use Rattle.std.proofs.Common.{ap, ◌∙◌, rules}
 use Rattle.paging.specs.Numbers.{numbers_of}
-use Rattle.runs.proofs.Going.{going_more, going_all}
+use Rattle.runs.proofs.Going.{going_more}
 use Rattle.runs.proofs.running.play.Goals as goal
 
+-- Said here: with `going_more` named on the function the search leaves the goal open, since the lemma asks about plans by
+-- their numbers, and the calls speak of the plans.
 pub loop-call-preserved : goal.loop-call-preserved
 loop-call-preserved g c =
     let same = c.loop-call.invariant.2 in (
@@ -33,8 +35,3 @@ loop-call-preserved g c =
           c.carry_out-reply.ensures.words
           c.push_reserved.ensures.items,
     )
-
-pub returns : goal.returns
-returns g c =
-    let all = going_all _ _ _ _ _ _ _ _ c.loop-call.invariant.4 c.loop-call-test.false in
-    record { replies = all.replies; state = all.state; words = all.words; plan = c.loop-call.invariant.2; lenders = c.loop-call.invariant.3 }

@@ -1,10 +1,12 @@
 use Rattle.std.proofs.Common.{◌≡◌, [], ◌∷◌, ◌++◌, get_or, vec_items, ap, ◌∙◌, rules}
 use Rattle.paging.specs.Numbers.{numbers_of}
 use Rattle.survey.specs.Markers.{marker_read, marker_used}
-use Rattle.survey.proofs.Steps.{read_more, used_more, used_all}
+use Rattle.survey.proofs.Steps.{read_more, used_more}
 use Rattle.survey.specs.Calls.{no_site}
 use Rattle.survey.proofs.real_loads.read_markers.Goals as goal
 
+-- Said here: with the lemmas named on the function the search leaves the goal open, since they ask what a call answered of the
+-- plan's numbers, under a function of them.
 pub loop-site-preserved : goal.loop-site-preserved
 loop-site-preserved g c =
     let ws = g.S.ReadStorage.words c.args.storage.now in
@@ -18,6 +20,3 @@ loop-site-preserved g c =
       search rules,
       used_more start ws _ _ _ sites _ no_site c.loop-site-test.true c.loop-site.invariant.2 (c.read_marker.ensures.state ∙ ap (λ p. marker_used (numbers_of p) ws address c.loop-site.unit.state) plan),
     )
-
-pub returns-clause-state : goal.returns-clause-state
-returns-clause-state g c = used_all _ _ _ _ _ _ c.loop-site-test.false c.loop-site.invariant.2

@@ -2,6 +2,8 @@ use Rattle.std.proofs.Common.{◌≡◌, Err, sym, ◌∙◌, rules}
 use Rattle.survey_image.proofs.Blocks.{drawing_more, drawing_stopped, drawing_all, whole_from}
 use Rattle.survey_image.proofs.drawing.draw_all.Goals as goal
 
+-- Said here: with the four lemmas named on the function the search gives up on the loop's goal, and leaves others open. They
+-- ask what the last block answered, which each path says the other way round.
 pub loop-item-preserved : goal.loop-item-preserved
 loop-item-preserved g c = (
   drawing_more g.B.AsBlock.block c.args.items.now _ _ _ _ _ _ c.loop-item-test.true c.item-item.is c.loop-item.invariant.0 (sym c.in_ok-draw.was ∙ c.draw.ensures.answer) c.draw.ensures.after,

@@ -2,6 +2,8 @@ use Rattle.std.proofs.Common.{◌≡◌, ◌^◌, sym, ◌∙◌}
 use Rattle.survey_image.proofs.Blocks.{table_more}
 use Rattle.survey_image.proofs.table.draw_table.Goals as goal
 
+-- Said here: with `table_more` named on the function the search leaves the goal open. The lemma asks for the size as a power,
+-- which follows from a test before the loop.
 pub loop-page-preserved : goal.loop-page-preserved
 loop-page-preserved g c =
     let plan = c.args.plan.now in

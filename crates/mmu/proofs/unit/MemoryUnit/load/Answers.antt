@@ -9,6 +9,8 @@ use Rattle.unit_state.proofs.Locating.{sound_request}
 use Rattle.unit_state.proofs.RequestLaws.{load_laws}
 use Rattle.mmu.proofs.unit.MemoryUnit.load.Goals as goal
 
+-- Said here: with `load_laws` and `sound_request` named on the function the search closes neither goal. `load_laws` speaks of
+-- the answer and the state by their definitions, and the goal of what equals them, which has to be put in both places.
 pub returns-clause-laws : goal.returns-clause-laws
 unfolding load_answer after_load
 returns-clause-laws g c =

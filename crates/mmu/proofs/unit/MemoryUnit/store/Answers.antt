@@ -10,6 +10,8 @@ use Rattle.protection.specs.declared.access_type.AccessType.TheVariants.{Store}
 use Rattle.unit_state.proofs.Locating.{sound_request}
 use Rattle.mmu.proofs.unit.MemoryUnit.store.Goals as goal
 
+-- Said here: with `store_laws` and `sound_request` named on the function the search closes neither goal. `store_laws` speaks
+-- of the answer and the state by their definitions, and the goal of what equals them, which has to be put in both places.
 pub returns-clause-laws : goal.returns-clause-laws
 unfolding store_answer after_store
 returns-clause-laws g c =
