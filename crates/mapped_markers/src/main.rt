@@ -2,20 +2,22 @@
 
 ghost use Rattle.std.specs.Prelude.{◌≡◌, true, IfOk};
 
+mod both;
+mod calls;
 mod chains;
 
 use boards::ram::RamBoard;
+use both::show_both;
+use calls::check_calls;
 use chains::{
     Damage, DamagedSearch, TableImage, show_chain, show_damage, show_two_pages, show_two_storages,
 };
-use lanes::width::Width;
 use paging::draft::Draft;
 use paging::form::{Form2K, Form4K, PageForm};
 use paging::plan::SettledPlan;
-use runs::call::{Call, Reply};
+use runs::call::Reply;
 use std::alloc::Global;
 use survey::call_check::CallCheck;
-use survey::calls::marker_calls;
 use survey::findings::Findings;
 use survey::on_boards::{
     IMAGE_BYTES, on_dump_board, on_interleaved_banks, on_ram_board, on_stacked_banks,
@@ -23,7 +25,6 @@ use survey::on_boards::{
 use survey::readings::markers_in;
 use survey::trouble::Trouble;
 use survey_image::drawing::draw_all;
-use survey_image::layout::effective_address;
 use survey_image::marker::Marker;
 use survey_image::sites::SITES;
 use survey_image::table::draw_table;
@@ -117,18 +118,6 @@ fn compare_replies(
     Ok(true)
 }
 
-// The calls of a check: every marker is read, one is corrected and read again, and a store is made that is not permitted.
-fn check_calls<F: PageForm>(heap: Global) -> anyhow::Result<Vec<Call>> {
-    let mut calls = marker_calls::<F>(heap, &SITES)?;
-    let easting = SITES[1].address + 8;
-    let corrected = 348_250_112;
-    calls.push(Call::Store(effective_address::<F>(1, easting), Width::Word, corrected))?;
-    calls.push(Call::Load(effective_address::<F>(2, easting), Width::Word))?;
-    calls.push(Call::Store(effective_address::<F>(2, easting), Width::Word, corrected))?;
-    calls.push(Call::ReadExceptions)?;
-    Ok(calls)
-}
-
 // Compares what a board gave with what the RAM board gave, and hands the plan on.
 fn compare_board<F: PageForm + Drop>(
     rt: &HostRuntime,
@@ -219,7 +208,8 @@ fn check_form<F: PageForm + Copy>(
     draw_table_into(image, &plan)?;
     let mut table = TableImage { plan: &plan, image };
     show_table(rt, &mut table)?;
-    check_boards(rt, form, image)
+    check_boards(rt, form, image)?;
+    show_both(rt, form, &plan, image)
 }
 
 fn settled<F: PageForm + Drop>(form: F) -> Result<SettledPlan<F>, Trouble> {

@@ -1,5 +1,5 @@
 -- A search depends on the words of the table alone.
-use Rattle.std.proofs.Common.{◌≡◌, ℕ, zero, suc, ◌+◌, ◌*◌, ◌<◌, ◌≤◌, Bool, true, false, cond, ltb, List, Some, None, Ok, Err, Option, Result, Continue, Break, refl, ap, ◌∙◌, arith}
+use Rattle.std.proofs.Common.{◌≡◌, ℕ, zero, suc, ◌+◌, ◌<◌, Bool, true, false, cond, ltb, List, length, get_or, Some, None, Ok, Err, Option, Result, Continue, Break, refl, ap, ◌∙◌, arith}
 use Rattle.std.proofs.lemmas.Bool.{ltb-true}
 use Rattle.std.proofs.lemmas.Bool.Decides.{nat_tests}
 use Rattle.std.proofs.lemmas.Nat.{mod_below}
@@ -46,9 +46,9 @@ gone_on_alike q n (Ok (Break x)) on other going h = refl
 gone_on_alike q n (Ok (Continue next)) on other going h = h next going.1
 gone_on_alike q n (Err e) on other going h = refl
 
-read_alike : (q : Query) (ws vs : List ℕ) (n : ℕ) → AlikeTables q ws vs → q.start ≤ n → n < q.start + 4 * q.entries → read_of ws n ≡ read_of vs n
-read_alike q ws vs n alike low high =
-    let w = alike.words n low high in let l = alike.long in grind (arith, nat_tests)
+-- a word that is the same in storages of one length is read alike
+pub read_same : (ws vs : List ℕ) (n : ℕ) → length ws ≡ length vs → get_or ws n 0 ≡ get_or vs n 0 → read_of ws n ≡ read_of vs n
+read_same ws vs n long same = grind (arith, nat_tests)
 
 -- what is made of the words of an entry, as they are read
 entry_alike :
@@ -58,9 +58,9 @@ entry_alike :
     gives (read_of ws (place_of q i)) (read_of ws (place_of q i + 1)) (read_of ws (place_of q i + 2))
     ≡ gives (read_of vs (place_of q i)) (read_of vs (place_of q i + 1)) (read_of vs (place_of q i + 2))
 entry_alike gives ws vs q i alike h =
-    let a = read_alike q ws vs (place_of q i) alike (omega arith) (omega arith) in
-    let b = read_alike q ws vs (place_of q i + 1) alike (omega arith) (omega arith) in
-    let c = read_alike q ws vs (place_of q i + 2) alike (omega arith) (omega arith) in
+    let a = alike (place_of q i) (omega arith) (omega arith) in
+    let b = alike (place_of q i + 1) (omega arith) (omega arith) in
+    let c = alike (place_of q i + 2) (omega arith) (omega arith) in
     ap (λ r. gives r (read_of ws (place_of q i + 1)) (read_of ws (place_of q i + 2))) a
     ∙ ap (λ r. gives (read_of vs (place_of q i)) r (read_of ws (place_of q i + 2))) b
     ∙ ap (λ r. gives (read_of vs (place_of q i)) (read_of vs (place_of q i + 1)) r) c
@@ -146,7 +146,7 @@ found_alike :
     found_by reached turn ws q ≡ found_by reached other vs q
 found_alike reached turn other ws vs q some alike same going =
     let low : hash_of q < q.entries = mod_below _ q.entries some in
-    let read = read_alike q ws vs (place_of q (hash_of q) + 1) alike (omega arith) (omega arith) in
+    let read = alike (place_of q (hash_of q) + 1) (omega arith) (omega arith) in
     ap (λ (r : Result ℕ Refusal). read_then r (λ e. fails e 0 None) (λ w. anchored reached turn q (anchor_of w))) read
     ∙ read_then_alike (read_of vs (place_of q (hash_of q) + 1)) _ _ _ (λ w. anchored_alike reached turn other q (anchor_of w) same going)
 

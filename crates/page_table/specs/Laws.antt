@@ -1,6 +1,7 @@
 -- What holds of walks, whatever the table.
 use Rattle.std.specs.Prelude.{◌≡◌, ℕ, zero, suc, ◌+◌, ◌*◌, ◌<◌, ◌≤◌, Bool, true, false, ◌⊎◌, List, length, Some, None, Ok, Err, slice_index}
 use Rattle.refusals.specs.declared.refusal.Refusal.TheVariants.{WordOutside}
+use Rattle.storage.specs.Words.{read_of}
 use Rattle.paging.specs.declared.geometry.PageGeometry.{PageGeometry}
 use Rattle.page_table.specs.declared.entry.Tag.{Tag}
 use Rattle.page_table.specs.declared.entry.Link.{Link}
@@ -89,10 +90,9 @@ Apart one other (Ok x) (Err e) = Unit {0}
 Apart one other (Err d) (Ok y) = Unit {0}
 Apart one other (Err d) (Err e) = Unit {0}
 
--- storages of one length that are alike in the words of the table
-pub record AlikeTables (q : Query) (ws vs : List ℕ) : Type 0 where
-  pub long : length ws ≡ length vs
-  pub words : (n : ℕ) → q.start ≤ n → n < q.start + 4 * q.entries → slice_index ws n ≡ slice_index vs n
+-- storages that are alike in the words of the table: each is there in both or in neither, and is the same
+abbrev pub AlikeTables : Query → List ℕ → List ℕ → Type 0
+AlikeTables q ws vs = (n : ℕ) → q.start ≤ n → n < q.start + 4 * q.entries → read_of ws n ≡ read_of vs n
 
 -- how many entries a walk compared
 abbrev pub compared_by : Outcome → ℕ

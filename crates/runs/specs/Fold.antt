@@ -19,6 +19,11 @@ unfoldable pub words_from : PlanNumbers → List ℕ → UnitState → List Call
 words_from plan ws s [] = ws
 words_from plan ws s (c ∷ cs) = words_from plan (words_after plan ws s c) (state_after plan ws s c) cs
 
+-- what a run replies, and the words that it leaves
+pub record Replied (plan : PlanNumbers) (start end : List ℕ) (first : UnitState) (calls : List Call) (replies : List Reply) : Type 0 where
+  pub replies-are : replies ≡ replies_from plan start first calls
+  pub words_are : end ≡ words_from plan start first calls
+
 -- a whole run: its replies, the unit and the storage after it
 pub record Ran (plan : PlanNumbers) (start end : List ℕ) (first last : UnitState) (calls : List Call) (replies : List Reply) : Type 0 where
   pub replies-are : replies ≡ replies_from plan start first calls

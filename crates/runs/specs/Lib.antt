@@ -1,2 +1,5 @@
 pub mod Step
 pub mod Fold
+pub mod SetUp
+pub mod Law
+pub mod Hindered

@@ -14,6 +14,9 @@ pub enum Call {
     ClearExceptions,
     ReadMark(u32),
     ClearMark(u32),
+    PurgeAll,
+    PurgeSegment(u32),
+    PurgePage(EffectiveAddress),
 }
 
 // What a unit answers to it.
@@ -22,5 +25,6 @@ pub enum Reply {
     Request(Answer),
     Exceptions(Exceptions),
     Mark(Result<PageMark, Refusal>),
+    // of a call that clears or purges
     Cleared(Result<(), Refusal>),
 }

@@ -32,5 +32,14 @@ pub fn carry_out<F: PageForm, S: Storage>(
         }
         Call::ReadMark(page) => Reply::Mark(unit.page_mark(page)),
         Call::ClearMark(page) => Reply::Cleared(unit.clear_page_mark(page)),
+        Call::PurgeAll => {
+            unit.purge_all();
+            Reply::Cleared(Ok(()))
+        }
+        Call::PurgeSegment(number) => Reply::Cleared(unit.purge_segment(number)),
+        Call::PurgePage(address) => {
+            unit.purge_page(address);
+            Reply::Cleared(Ok(()))
+        }
     }
 }

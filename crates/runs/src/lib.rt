@@ -3,3 +3,5 @@
 pub mod call;
 pub mod carrying;
 pub mod running;
+pub mod set_up;
+pub mod twice;

@@ -11,7 +11,7 @@ use storage::words::{ReadStorage, Storage};
 
 // Carries the calls out, one after the other, and keeps the replies, for which there is room.
 #[tactic(auto, using(crate::proofs::Going::going_all))]
-fn play<F: PageForm, S: Storage>(
+pub(crate) fn play<F: PageForm, S: Storage>(
     unit: &mut MemoryUnit<F>,
     storage: &mut S,
     calls: &[Call],

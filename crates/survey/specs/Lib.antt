@@ -2,3 +2,4 @@ pub mod Markers
 pub mod Readings
 pub mod Calls
 pub mod Check
+pub mod Hindered

@@ -12,6 +12,7 @@ use paging::form::PageForm;
 use protection::register::SegmentRegister;
 use runs::call::{Call, Reply};
 use runs::running::run;
+use runs::set_up::{RegisterWrite, write_registers};
 use std::alloc::Global;
 use storage::words::{ReadStorage, Storage};
 
@@ -29,12 +30,19 @@ const READ_ONLY: SegmentRegister = SegmentRegister {
     ..READ_WRITE
 };
 
+// The writes of both, before the calls of a check.
+pub const REGISTERS: [RegisterWrite; 2] = [
+    RegisterWrite::Segment(1, READ_WRITE),
+    RegisterWrite::Segment(2, READ_ONLY),
+];
+
 // Calls, carried out by a unit whose registers 1 and 2 are for one segment. The signature is the trait's, as each impl writes it.
 #[derive(Clone, Copy)]
 pub struct CallCheck<'a> {
     pub calls: &'a [Call],
 }
 
+#[tactic(auto, unfolding(runs::specs::SetUp::set_up))]
 impl<'a> BoardCheck for CallCheck<'a> {
     type Item = Reply;
 
@@ -49,8 +57,7 @@ impl<'a> BoardCheck for CallCheck<'a> {
         storage: &mut S,
     ) -> Result<(Findings<Reply>, Draft<F>), Trouble> {
         let mut unit = MemoryUnit::power_on(draft.settle()?);
-        unit.write_segment(1, READ_WRITE)?;
-        unit.write_segment(2, READ_ONLY)?;
+        write_registers(&mut unit, &REGISTERS);
         let found = run(heap, &mut unit, storage, self.calls)?;
         let pages = page_marks(heap, &unit)?;
         Ok((Findings { found, pages }, unit.end()))

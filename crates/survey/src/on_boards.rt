@@ -1,6 +1,6 @@
 #![tactic(auto, using(crate::proofs::Failing::failing))]
 
-ghost use Rattle.std.specs.Prelude.{IfOk};
+ghost use Rattle.std.specs.Prelude.{◌≡◌, IfOk, OnOk};
 ghost use Rattle.paging.specs.Numbers.{drafted};
 ghost use Rattle.boards.specs.Ram.{ram_words};
 ghost use Rattle.survey.specs.Check.{Checked};
@@ -22,16 +22,28 @@ use storage::words::{ReadStorage, Storage};
 pub const IMAGE_BYTES: usize = 65536;
 
 // The page that each block of the dump holds.
-const SHUFFLED: [u16; 32] = [
+pub const SHUFFLED: [u16; 32] = [
     5, 18, 31, 12, 25, 6, 19, 0, 13, 26, 7, 20, 1, 14, 27, 8, 21, 2, 15, 28, 9, 22, 3, 16, 29, 10,
     23, 4, 17, 30, 11, 24,
 ];
 
+// Lays an image out on a board of the same size.
+pub fn lay_out<A: ReadStorage, B: Storage>(source: &A, board: &mut B) -> Result<(), Trouble>
+    ensures after { OnOk result (B.ReadStorage.words board.new ≡ A.ReadStorage.words source.now) }
+    ensures lenders { B.Storage.lenders board.new ≡ B.Storage.lenders board.old }
+{
+    if source.count() != board.count() {
+        return Err(Trouble::Refused(Refusal::SizeDiffers));
+    }
+    copy_words(source, board)?;
+    Ok(())
+}
+
 // What a check gives is the clause `Checked` of each function here, and no ghost field: such a field speaks of the fields beside
 // it, and not of the image and the check, which are only lent.
 //
-// Lays an image out on a board of the same size, and checks it there. Heap, draft, image and check are no struct, since the draft
-// goes into a unit and comes back, while the others are only lent.
+// Lays an image out on a board, and checks it there. Heap, draft, image and check are no struct, since the draft goes into a unit
+// and comes back, while the others are only lent.
 fn on_board<F: PageForm + Drop, S: Storage, C: BoardCheck>(
     heap: Global,
     draft: Draft<F>,
@@ -41,11 +53,7 @@ fn on_board<F: PageForm + Drop, S: Storage, C: BoardCheck>(
 ) -> Result<(Findings<C::Item>, Draft<F>), Trouble>
     ensures { IfOk result (Checked F.PageForm.sizes draft (C.Found (drafted F.PageForm.sizes draft) (ram_words image.old) check.now) (C.left (drafted F.PageForm.sizes draft) (ram_words image.old) check.now)) }
 {
-    let source = RamBoard::new(image);
-    if source.count() != board.count() {
-        return Err(Trouble::Refused(Refusal::SizeDiffers));
-    }
-    copy_words(&source, board)?;
+    lay_out(&RamBoard::new(image), board)?;
     check.check_storage(heap, draft, board)
 }
 

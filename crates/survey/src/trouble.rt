@@ -1,8 +1,10 @@
 ghost use Rattle.std.specs.Prelude.{◌≡◌};
+ghost use Rattle.survey.specs.Hindered.{hindered};
 ghost use Rattle.survey.specs.declared.trouble.Trouble.TheVariants.{Memory, Refused};
 
 use paging::draft::RefusedDraft;
 use refusals::refusal::Refusal;
+use runs::twice::{Hindrance, NotRun};
 use std::alloc::{AllocError, AllocFailed};
 use thiserror::Error;
 use unit_state::answer::Fault;
@@ -56,5 +58,17 @@ impl<F: Drop> From<RefusedDraft<F>> for Trouble {
     fn from(e: RefusedDraft<F>) -> Trouble {
         let RefusedDraft { draft: _, refusal } = e;
         Trouble::Refused(refusal)
+    }
+}
+
+impl<F: Drop> From<NotRun<F>> for Trouble {
+    ghost from_gives = { λ e r. r ≡ hindered e.reason };
+
+    fn from(e: NotRun<F>) -> Trouble {
+        let NotRun { draft: _, reason } = e;
+        match reason {
+            Hindrance::Memory => Trouble::Memory,
+            Hindrance::Refused(rule) => Trouble::Refused(rule),
+        }
     }
 }

@@ -128,6 +128,27 @@ fn hashes_of_small_tables(rt: HostRuntime) -> Result<(), Fail> {
     )
 }
 
+// (s XOR v) mod 4,096, where page numbers have 16 bits: FFF XOR 0FFF is 0, and ABC XOR 1234 is 1888, which is 888 in the lowest
+// twelve bits (hexadecimal): 2,184.
+const OF_4096: [(u16, u32, u16); 6] = [
+    (0x000, 0x0fff, 4095),
+    (0x000, 0x1000, 0),
+    (0x000, 0xffff, 4095),
+    (0xfff, 0x0000, 4095),
+    (0xfff, 0x0fff, 0),
+    (0xabc, 0x1234, 2184),
+];
+
+// In 4K the longest table has 4,096 entries, and is the last 65,536 bytes of 16 MiB: it starts at word 255 * 4 * 4,096, which is
+// 4,177,920.
+#[test]
+fn the_longest_table_of_pages_of_4_kib(rt: HostRuntime) -> Result<(), Fail> {
+    let mut bytes = vec![in rt.alloc(); 0u8; 16_777_216]?;
+    let mut board = RamBoard::new(&mut bytes);
+    let plan = plan_of(Form4K, 24, 255)?;
+    start_at(&rt, &mut board, &plan, 4_177_920, 4096, &OF_4096)
+}
+
 // The longest table is the last 131,072 bytes of 16 MiB: it starts at word 127 * 4 * 8,192, which is 4,161,536. Then its last
 // anchor points to its last entry, and that to itself. It holds page 1000 of segment FFF: FFF XOR 1000 is 1FFF, which is
 // 8,191, as 0 XOR 1FFF is. A walk that differs goes round: 8,192 entries are compared with the long-stop bit off (12), and

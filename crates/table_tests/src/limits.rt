@@ -80,7 +80,7 @@ fn chains_of_the_whole_table(rt: HostRuntime) -> Result<(), Fail> {
 // is asked for, where 128 is that of none; the number of the refusal (0 where the page is found) and the lowest entry that is
 // compared, with the long-stop bit on; and both with it off. The 126th of the chain is entry 2, the 127th entry 1 and the
 // 128th entry 0.
-const LONG: [(u16, (bool, u16), u16, (u8, u16), (u8, u16)); 10] = [
+const LONG: [(u16, (bool, u16), u16, (u8, u16), (u8, u16)); 11] = [
     // found at the 126th and the 127th place; the 128th is only compared with the bit off
     (1, (false, 0), 2, (0, 2), (0, 2)),
     (1, (false, 0), 1, (0, 1), (0, 1)),
@@ -92,6 +92,8 @@ const LONG: [(u16, (bool, u16), u16, (u8, u16), (u8, u16)); 10] = [
     // its pointer is not looked at with the bit on, and refused with 11 with it off
     (1, (false, 128), 0, (10, 1), (11, 1)),
     (1, (false, 8191), 0, (10, 1), (11, 1)),
+    // a loop of all 128
+    (0, (false, 127), 128, (10, 1), (12, 0)),
     // before the 127th the bit has no effect
     (2, (true, 1), 0, (9, 2), (9, 2)),
     (2, (false, 128), 0, (11, 2), (11, 2)),
@@ -139,6 +141,39 @@ fn long_chains<F: PageForm>(
 fn chains_of_127_entries_and_more(rt: HostRuntime) -> Result<(), Fail> {
     long_chains(&rt, rt.alloc(), &plan_of(Form2K, 18, 0)?)?;
     long_chains(&rt, rt.alloc(), &plan_of(Form4K, 19, 0)?)
+}
+
+// A loop of 127 entries: entry 1 points to entry 127. With the long-stop bit on the walk stops (10) at the 127th, before it comes
+// round; with it off at the 128th (12), which is entry 127 again.
+fn loop_of_127<F: PageForm>(
+    rt: &impl Abort,
+    heap: Global,
+    plan: &SettledPlan<F>,
+) -> Result<(), Fail> {
+    let mut bytes = bytes_of(heap, plan)?;
+    let mut board = RamBoard::new(&mut bytes);
+    put_chain::<F, RamBoard>(rt, &mut board, 128)?;
+    put_entry::<F, RamBoard>(rt, &mut board, 0, 1, in_chain(1), link_word(false, 127))?;
+    let once = down_to(heap, 128, 1)?;
+    let mut again = down_to(heap, 128, 1)?;
+    again.push(127)?;
+    for (long_stop, number, path) in [(true, 10, once.as_slice()), (false, 12, again.as_slice())] {
+        let walk = Walk {
+            tag: in_chain(128),
+            long_stop,
+            number,
+            path,
+        };
+        answers(rt, heap, &board, plan, walk, "a loop of 127 entries")?;
+    }
+    Ok(())
+}
+
+// P is 128 in 2K with exponent 18 and in 4K with exponent 19.
+#[test]
+fn loops_of_127_entries(rt: HostRuntime) -> Result<(), Fail> {
+    loop_of_127(&rt, rt.alloc(), &plan_of(Form2K, 18, 0)?)?;
+    loop_of_127(&rt, rt.alloc(), &plan_of(Form4K, 19, 0)?)
 }
 
 // An entry that differs and points to itself is compared P times with the long-stop bit off (12), and 127 times with it on

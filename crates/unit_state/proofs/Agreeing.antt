@@ -1,4 +1,4 @@
--- Requests leave look-aside buffers that agree with the tables.
+-- Requests and purges leave look-aside buffers that agree with the tables.
 use Rattle.std.proofs.Common.{◌≡◌, ℕ, ◌<◌, Bool, List, Some, None, Ok, Err, Option, Result, sym, refl, ap, ◌∙◌, subst}
 use Rattle.refusals.specs.declared.refusal.Refusal.{Refusal}
 use Rattle.paging.specs.Numbers.{PlanNumbers}
@@ -11,6 +11,9 @@ use Rattle.page_table.specs.Laws.{Well, AlikeTables}
 use Rattle.page_table.proofs.Walks.{searched_well}
 use Rattle.page_table.proofs.Alike.{searched_alike}
 use Rattle.protection.specs.declared.access_type.AccessType.{AccessType}
+use Rattle.protection.specs.declared.register.SegmentRegister.{SegmentRegister}
+use Rattle.tlb.specs.declared.purging.Purge.{Purge}
+use Rattle.tlb.proofs.Purged.{each_purged}
 use Rattle.page_table.specs.declared.walk.Fault.{Fault}
 use Rattle.unit_state.specs.declared.state.UnitState.{UnitState}
 use Rattle.unit_state.specs.declared.translation.Place.{Place}
@@ -19,6 +22,7 @@ use Rattle.unit_state.specs.State.{with_buffers}
 use Rattle.unit_state.specs.Marks.{used_page}
 use Rattle.unit_state.specs.Translation.{segment_at, tag_at, entry_refusal, kept_of, found_for, buffers_after, translated_state}
 use Rattle.unit_state.specs.Requests.{used_at, noted_in}
+use Rattle.unit_state.specs.Purges.{after_purge}
 use Rattle.unit_state.specs.Laws.{Named, Agrees}
 use Rattle.unit_state.proofs.Locating.{buffers_hold}
 
@@ -76,6 +80,12 @@ agrees_after plan ws s address r answer store t agrees =
     agrees_noted plan ws (used_at (translated_state plan ws s address.number) r answer store) answer address t
     (agrees_used plan ws (translated_state plan ws s address.number) r answer store (agrees_translated plan ws s address.number agrees))
 
+pub agrees_purged :
+    (plan : PlanNumbers) (ws : List ℕ) (p : Purge) (s : UnitState) → Agrees plan ws s → Agrees plan ws (after_purge p s)
+agrees_purged plan ws p s agrees = λ i j t is.
+    let named = each_purged (Named plan ws s) p s.buffers agrees i j t is in
+    record { found = named.found; is = named.is; kept = named.kept }
+
 -- buffers that agree with a table agree with every table that is alike
 pub agrees_alike :
     (plan : PlanNumbers) (ws vs : List ℕ) (s : UnitState) →
@@ -92,38 +102,47 @@ agrees_alike plan ws vs s some alike agrees = λ i j t is.
       kept = named.kept;
     }
 
--- a request leaves the long-stop bit
-long_translated :
-    (plan : PlanNumbers) (ws : List ℕ) (s : UnitState) (address : ℕ) →
-    (translated_state plan ws s address).long_stop ≡ s.long_stop
+-- a request leaves the registers, the transaction ID and the long-stop bit, and all that is made of them
+registers_translated :
+    {X : Type 0} (made : List SegmentRegister → ℕ → Bool → X) (plan : PlanNumbers) (ws : List ℕ) (s : UnitState) (address : ℕ) →
+    made (translated_state plan ws s address).segments (translated_state plan ws s address).transaction (translated_state plan ws s address).long_stop
+    ≡ made s.segments s.transaction s.long_stop
 unfolding translated_state
-long_translated plan ws s address = ways (entry_refusal plan.exponent ws (segment_at s address))
+registers_translated made plan ws s address = ways (entry_refusal plan.exponent ws (segment_at s address))
   where
-    ways :
-        (o : Option Refusal) →
-        (unless o s (with_buffers s (buffers_after plan ws s (tag_at plan.form (segment_at s address) address)))).long_stop ≡ s.long_stop
+    after : Option Refusal → UnitState
+    after o = unless o s (with_buffers s (buffers_after plan ws s (tag_at plan.form (segment_at s address) address)))
+
+    ways : (o : Option Refusal) → made (after o).segments (after o).transaction (after o).long_stop ≡ made s.segments s.transaction s.long_stop
     ways (Some e) = refl
     ways None = refl
 
-long_used :
-    (s : UnitState) (r : Result Place Fault) (answer : Answer) (store : Bool) →
-    (used_at s r answer store).long_stop ≡ s.long_stop
+registers_used :
+    {X : Type 0} (made : List SegmentRegister → ℕ → Bool → X) (s : UnitState) (r : Result Place Fault) (answer : Answer) (store : Bool) →
+    made (used_at s r answer store).segments (used_at s r answer store).transaction (used_at s r answer store).long_stop
+    ≡ made s.segments s.transaction s.long_stop
 unfolding used_page
-long_used s (Ok p) (Ok a) store = refl
-long_used s (Ok p) (Err e) store = refl
-long_used s (Err x) (Ok a) store = refl
-long_used s (Err x) (Err e) store = refl
+registers_used made s (Ok p) (Ok a) store = refl
+registers_used made s (Ok p) (Err e) store = refl
+registers_used made s (Err x) (Ok a) store = refl
+registers_used made s (Err x) (Err e) store = refl
 
-long_noted :
-    (s : UnitState) (answer : Answer) (address : EffectiveAddress) (t : AccessType) →
-    (noted_in s answer address t).long_stop ≡ s.long_stop
-long_noted s (Ok a) address t = refl
-long_noted s (Err e) address t = refl
+registers_noted :
+    {X : Type 0} (made : List SegmentRegister → ℕ → Bool → X) (s : UnitState) (answer : Answer) (address : EffectiveAddress) (t : AccessType) →
+    made (noted_in s answer address t).segments (noted_in s answer address t).transaction (noted_in s answer address t).long_stop
+    ≡ made s.segments s.transaction s.long_stop
+registers_noted made s (Ok a) address t = refl
+registers_noted made s (Err e) address t = refl
 
-pub long_after :
-    (plan : PlanNumbers) (ws : List ℕ) (s : UnitState) (address : EffectiveAddress) (r : Result Place Fault) (answer : Answer) (store : Bool) (t : AccessType) →
-    (noted_in (used_at (translated_state plan ws s address.number) r answer store) answer address t).long_stop ≡ s.long_stop
-long_after plan ws s address r answer store t =
-    long_noted (used_at (translated_state plan ws s address.number) r answer store) answer address t
-    ∙ long_used (translated_state plan ws s address.number) r answer store
-    ∙ long_translated plan ws s address.number
+pub registers_after :
+    {X : Type 0} (made : List SegmentRegister → ℕ → Bool → X) (plan : PlanNumbers) (ws : List ℕ) (s : UnitState) (address : EffectiveAddress) →
+    (r : Result Place Fault) (answer : Answer) (store : Bool) (t : AccessType) →
+    made
+    (noted_in (used_at (translated_state plan ws s address.number) r answer store) answer address t).segments
+    (noted_in (used_at (translated_state plan ws s address.number) r answer store) answer address t).transaction
+    (noted_in (used_at (translated_state plan ws s address.number) r answer store) answer address t).long_stop
+    ≡ made s.segments s.transaction s.long_stop
+registers_after made plan ws s address r answer store t =
+    registers_noted made (used_at (translated_state plan ws s address.number) r answer store) answer address t
+    ∙ registers_used made (translated_state plan ws s address.number) r answer store
+    ∙ registers_translated made plan ws s address.number

@@ -1,9 +1,10 @@
 -- What a translation that leads to a place says.
-use Rattle.std.proofs.Common.{◌≡◌, ℕ, ◌<◌, ◌≤◌, Bool, true, false, cond, List, Some, None, Ok, Err, Option, Result, sym, refl, subst, arith}
+use Rattle.std.proofs.Common.{◌≡◌, ℕ, ◌+◌, ◌*◌, ◌/◌, ◌%◌, ◌<◌, ◌≤◌, ⊎_elim, Bool, true, false, cond, List, Some, None, Ok, Err, Option, Result, sym, refl, subst, arith}
 use Rattle.refusals.specs.declared.refusal.Refusal.{Refusal}
 use Rattle.paging.specs.Numbers.{PlanNumbers}
-use Rattle.paging.specs.Address.{offset_of}
-use Rattle.paging.proofs.Pages.{Wide, Whole, pages_bounded}
+use Rattle.paging.specs.declared.geometry.PageGeometry.{PageGeometry}
+use Rattle.paging.specs.Address.{offset_of, page_of}
+use Rattle.paging.proofs.Pages.{Wide, Whole, page_length, pages_bounded}
 use Rattle.protection.specs.declared.register.SegmentRegister.{SegmentRegister}
 use Rattle.protection.specs.declared.access_type.AccessType.{AccessType}
 use Rattle.protection.specs.Permission.{permitted}
@@ -83,3 +84,33 @@ place_near plan ws s address t p wide whole large small near e =
     let leads = translated_leads plan ws s address t p e in
     let low = located_near plan ws s (tag_at plan.form (segment_at s address) address) leads.found few near leads.is in
     subst (λ (x : Place). x.page < 8192) (sym leads.place) low
+
+-- its real address lies in that page
+place_in_page_of :
+    (plan : PlanNumbers) (ws : List ℕ) (s : UnitState) (address : ℕ) (t : AccessType) (p : Place) →
+    Wide plan.form →
+    Whole plan.form →
+    translated plan ws s address t ≡ Ok p →
+    page_of plan.form p.address.number ≡ p.page
+place_in_page_of plan ws s address t p wide whole e =
+    let leads = translated_leads plan ws s address t p e in
+    let at = entry_page plan.form leads.found.translation.entry (offset_of address) wide whole in
+    subst (λ (x : Place). page_of plan.form x.address.number ≡ x.page) (sym leads.place) at
+  where
+    entry_page :
+        (f : PageGeometry) (entry offset : ℕ) → Wide f → Whole f → (entry * f.page + offset % f.page) / f.page ≡ entry
+    entry_page f entry offset wide whole =
+        ⊎_elim
+        (λ l. subst (λ (x : ℕ). (entry * x + offset % x) / x ≡ entry) (sym l) (omega arith))
+        (λ l. subst (λ (x : ℕ). (entry * x + offset % x) / x ≡ entry) (sym l) (omega arith))
+        (page_length f wide whole)
+
+-- what a request gives or leaves at the place that it leads to
+pub at_place :
+    (plan : PlanNumbers) (ws : List ℕ) (s : UnitState) (address : ℕ) (t : AccessType) (p : Place) (Bytes : Place → Type 0) →
+    Wide plan.form →
+    Whole plan.form →
+    translated plan ws s address t ≡ Ok p →
+    Bytes p →
+    (q : Place) × (translated plan ws s address t ≡ Ok q) × (page_of plan.form q.address.number ≡ q.page) × Bytes q
+at_place plan ws s address t p Bytes wide whole e bytes = (p, e, place_in_page_of plan ws s address t p wide whole e, bytes)

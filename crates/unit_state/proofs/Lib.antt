@@ -5,3 +5,8 @@ pub mod Plain
 pub mod Passing
 pub mod Agreeing
 pub mod RequestLaws
+pub mod Standing
+pub mod Granting
+pub mod Isolating
+pub mod Judging
+pub mod Granted

@@ -36,7 +36,8 @@ use Rattle.unit_state.specs.Requests.{used_at, noted_in}
 use Rattle.unit_state.specs.Sound.{Sound}
 use Rattle.unit_state.proofs.Soundness.{sound_used}
 
-found_well :
+-- what a search finds has the tag that it looks for, and says what its entry says
+pub found_well :
     (plan : PlanNumbers) (ws : List ℕ) (s : UnitState) (tag : Tag) (x : Found) →
     found_for plan ws s tag ≡ Ok x →
     FoundWell plan.form ws (query_of plan s.long_stop tag) x

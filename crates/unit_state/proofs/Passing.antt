@@ -10,6 +10,7 @@ use Rattle.paging.specs.Numbers.{PlanNumbers}
 use Rattle.paging.specs.Address.{offset_of, place_in_page}
 use Rattle.paging.specs.Plan.{storage_bytes, page_count}
 use Rattle.paging.proofs.Pages.{Wide, Whole, pages_whole, page_length}
+use Rattle.page_table.specs.declared.walk.Found.{Found}
 use Rattle.page_table.specs.Search.{Outcome, query_of}
 use Rattle.page_table.specs.Laws.{Well}
 use Rattle.page_table.proofs.Walks.{searched_well}
@@ -23,9 +24,10 @@ use Rattle.page_table.specs.declared.walk.Fault.{Fault}
 use Rattle.unit_state.specs.declared.state.UnitState.{UnitState}
 use Rattle.unit_state.specs.declared.translation.Place.{Place}
 use Rattle.unit_state.specs.Answers.{Answer}
-use Rattle.unit_state.specs.Translation.{segment_at, tag_at, segment_refusal, entry_refusal, kept_of, found_for, translated}
+use Rattle.unit_state.specs.Translation.{segment_at, tag_at, segment_refusal, entry_refusal, kept_of, found_for, protection_refusal, translated}
 use Rattle.unit_state.specs.Requests.{load_at, store_at}
 use Rattle.unit_state.specs.Laws.{Agrees, Passes, essence, without_buffers}
+use Rattle.unit_state.specs.Grants.{real_in}
 use Rattle.tlb.proofs.Entries.{each_empty}
 use Rattle.unit_state.proofs.Inverting.{Leads, translated_leads}
 use Rattle.unit_state.proofs.Plain.{Spot, plain_located, plain_named, plain_judged, plain_refused_or, plain_translated, plain_load, plain_store, zeroed, located-plain, translated-plain, load_plain, store-plain}
@@ -111,6 +113,57 @@ passes_leads plan ws s address t pass =
     (entered_to plan.exponent ws r (record { sized = pass.sized; present = pass.present; unbarred = pass.unbarred }))
     ∙ ap (λ (x : Outcome). judge (plain_named x)) pass.named
     ∙ cond-true _ _ _ pass.permits
+
+-- where the translation by the tables leads to a place, the rules let the request pass, and the place is that of the page found
+pub plain_passes :
+    (plan : PlanNumbers) (ws : List ℕ) (s : UnitState) (address : ℕ) (t : AccessType) (p : Spot) →
+    plain_translated plan ws s address t ≡ Ok p →
+    (pass : Passes plan ws s address t) × (p ≡ (real_in plan pass.found address, pass.found.entry))
+plain_passes plan ws s address t p e = enters (entry_refusal plan.exponent ws r) refl e
+  where
+    r : SegmentRegister
+    r = segment_at s address
+
+    offset : ℕ
+    offset = offset_of address
+
+    found : Outcome
+    found = found_for plan ws s (tag_at plan.form r address)
+
+    Goal : Type 0
+    Goal = (pass : Passes plan ws s address t) × (p ≡ (real_in plan pass.found address, pass.found.entry))
+
+    allows :
+        (x : Found) (b : Bool) →
+        entry_refusal plan.exponent ws r ≡ None →
+        found ≡ Ok x →
+        permitted plan.form r x.page s.transaction offset t ≡ b →
+        cond {A = Result Spot Refusal} b (Ok (x.entry * plan.form.page + place_in_page plan.form offset, x.entry)) (Err (protection_refusal r)) ≡ Ok p →
+        Goal
+    allows x true entered named permits place =
+        let enter = entered_from plan.exponent ws r entered in
+        let same : p ≡ (real_in plan x address, x.entry) = cc in (
+          record { sized = enter.sized; present = enter.present; unbarred = enter.unbarred; found = x; named = named; permits = permits },
+          same,
+        )
+    allows x false entered named permits place = let z : ◌≡◌ {A = ℕ} 0 1 = cc in absurd (omega arith)
+
+    finds :
+        (x : Outcome) →
+        entry_refusal plan.exponent ws r ≡ None →
+        found ≡ x →
+        plain_judged plan.form r s.transaction offset t (plain_named x) ≡ Ok p →
+        Goal
+    finds (Ok x) entered named place = allows x (permitted plan.form r x.page s.transaction offset t) entered named refl place
+    finds (Err fault) entered named place = let z : ◌≡◌ {A = ℕ} 0 1 = cc in absurd (omega arith)
+
+    enters :
+        (o : Option Refusal) →
+        entry_refusal plan.exponent ws r ≡ o →
+        plain_refused_or o (plain_judged plan.form r s.transaction offset t (plain_named found)) ≡ Ok p →
+        Goal
+    enters None entered place = finds found entered refl place
+    enters (Some refusal) entered place = let z : ◌≡◌ {A = ℕ} 0 1 = cc in absurd (omega arith)
 
 -- a place in a page of the plan lies in a storage of its size
 pub place_inside :

@@ -19,7 +19,7 @@ use Rattle.unit_state.specs.Answers.{Answer}
 use Rattle.unit_state.specs.Requests.{load_at, store_at, noted_in, load_place, store_place, used_by_store, load_answer, after_load, store_answer, after_store}
 use Rattle.unit_state.specs.Laws.{Agrees, LoadLaws, StoreLaws, essence}
 use Rattle.unit_state.proofs.Passing.{Planned, load_passes, load_accepts, load_unseen, store_passes, store-accepts, store_unseen}
-use Rattle.unit_state.proofs.Agreeing.{agrees_after, agrees_alike, long_after}
+use Rattle.unit_state.proofs.Agreeing.{agrees_after, agrees_alike, registers_after}
 
 pub load_laws :
     (plan : PlanNumbers) (ws : List ℕ) (s : UnitState) (w : Width) (address : EffectiveAddress) →
@@ -57,7 +57,7 @@ store_laws plan ws vs s w address value planned some agrees = ways (ltb value (v
     agreed = agrees_after plan ws s address place answer true Store agrees
 
     long : after.long_stop ≡ s.long_stop
-    long = long_after plan ws s address place answer true Store
+    long = registers_after (λ segments transaction long. long) plan ws s address place answer true Store
 
     ways :
         (fits : Bool) →

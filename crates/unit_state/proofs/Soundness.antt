@@ -4,7 +4,9 @@ use Rattle.std.proofs.lemmas.Bool.{cases_eq, cases_lt}
 use Rattle.std.proofs.lemmas.List.{get_or-set_same, get_or-set_other, set_past}
 use Rattle.protection.specs.declared.register.SegmentRegister.{SegmentRegister}
 use Rattle.tlb.specs.declared.buffers.Buffers.{Buffers}
+use Rattle.tlb.specs.declared.purging.Purge.{Purge}
 use Rattle.tlb.specs.Lookup.{empty_buffers}
+use Rattle.tlb.proofs.Purged.{each_purged, unique_purged}
 use Rattle.exceptions.specs.declared.registers.Exceptions.{Exceptions}
 use Rattle.exceptions.specs.Raising.{no_exceptions}
 use Rattle.unit_state.specs.declared.state.PageMark.{PageMark}
@@ -12,6 +14,7 @@ use Rattle.unit_state.specs.declared.state.UnitState.{UnitState}
 use Rattle.unit_state.specs.Registers.{absent, NarrowIds}
 use Rattle.unit_state.specs.State.{no_mark, powered_on, with_segments}
 use Rattle.unit_state.specs.Marks.{used_page}
+use Rattle.unit_state.specs.Purges.{after_purge}
 use Rattle.unit_state.specs.Sound.{Sound}
 
 pub sound_used : (s : UnitState) (page : ℕ) (store : Bool) → Sound s → Sound (used_page s page store)
@@ -42,6 +45,15 @@ pub sound_written :
     Sound (with_segments s (set s.segments n r))
 sound_written s n r low sound =
     record { whole = sound.whole; narrow = narrow_set s.segments n r low sound.narrow; unique = sound.unique; near = sound.near }
+
+pub sound_purged : (p : Purge) (s : UnitState) → Sound s → Sound (after_purge p s)
+sound_purged p s sound =
+    record {
+      whole = sound.whole;
+      narrow = sound.narrow;
+      unique = unique_purged p s.buffers sound.unique;
+      near = each_purged (λ t. t.entry < 8192) p s.buffers sound.near;
+    }
 
 -- the state that power-on puts together
 pub powered_on_lem :

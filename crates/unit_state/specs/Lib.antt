@@ -5,4 +5,7 @@ pub mod Marks
 pub mod Translation
 pub mod Requests
 pub mod Laws
+pub mod Grants
 pub mod Sound
+pub mod Purges
+pub mod Deciding

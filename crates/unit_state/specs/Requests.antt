@@ -4,6 +4,7 @@ use Rattle.refusals.specs.declared.refusal.Refusal.{Refusal}
 use Rattle.refusals.specs.declared.refusal.Refusal.TheVariants.{ValueTooWide}
 use Rattle.paging.specs.Numbers.{PlanNumbers}
 use Rattle.paging.specs.declared.address.EffectiveAddress.{EffectiveAddress}
+use Rattle.paging.specs.Address.{page_of}
 use Rattle.lanes.specs.declared.width.Width.{Width}
 use Rattle.lanes.specs.Lanes.{value_limit, load_of, store_of, stored_if}
 use Rattle.lanes.specs.Bytes.{LoadedBytes, StoredBytes}
@@ -107,12 +108,19 @@ unfoldable pub store_words : PlanNumbers → List ℕ → UnitState → Width �
 store_words plan ws s w address value =
     cond (nat_lt value (value_limit w)) (words_at ws w value (store_place plan ws s address)) ws
 
--- An accepted load gives the bytes at the real address that its translation names.
+-- An accepted load gives the bytes at the real address that its translation names, which is one of the page that it names.
 abbrev pub LoadedAt : PlanNumbers → List ℕ → UnitState → Width → EffectiveAddress → Access → Type 0
 LoadedAt plan ws s w address a =
-    (p : Place) × (load_place plan ws s address ≡ Ok p) × LoadedBytes ws w p.address.number a.value
+    (p : Place)
+    × (load_place plan ws s address ≡ Ok p)
+    × (page_of plan.form p.address.number ≡ p.page)
+    × LoadedBytes ws w p.address.number a.value
 
--- An accepted store alters the bytes of one aligned unit at the real address that its translation names, and no other byte.
+-- An accepted store alters the bytes of one aligned unit at the real address that its translation names, which is one of the
+-- page that it names, and no other byte.
 abbrev pub StoredAt : PlanNumbers → List ℕ → List ℕ → UnitState → Width → EffectiveAddress → ℕ → Type 0
 StoredAt plan ws vs s w address value =
-    (p : Place) × (store_place plan ws s address ≡ Ok p) × StoredBytes ws vs w p.address.number value
+    (p : Place)
+    × (store_place plan ws s address ≡ Ok p)
+    × (page_of plan.form p.address.number ≡ p.page)
+    × StoredBytes ws vs w p.address.number value

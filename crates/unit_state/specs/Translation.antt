@@ -4,6 +4,7 @@ use Rattle.refusals.specs.declared.refusal.Refusal.{Refusal}
 use Rattle.refusals.specs.declared.refusal.Refusal.TheVariants.{SizeDiffers, SegmentAbsent, SegmentBarred, ProtectionRefused, LockRefused}
 use Rattle.paging.specs.declared.geometry.PageGeometry.{PageGeometry}
 use Rattle.paging.specs.Numbers.{PlanNumbers}
+use Rattle.paging.specs.declared.address.VirtualAddress.{VirtualAddress}
 use Rattle.paging.specs.Address.{register_of, offset_of, page_of, place_in_page}
 use Rattle.paging.specs.Plan.{storage_bytes}
 use Rattle.page_table.specs.declared.entry.Tag.{Tag}
@@ -26,6 +27,10 @@ use Rattle.unit_state.specs.State.{with_buffers}
 -- the segment register that an effective address names
 abbrev pub segment_at : UnitState → ℕ → SegmentRegister
 segment_at s address = slice_index_or s.segments (register_of address) absent
+
+-- the virtual page that an address lies in
+abbrev pub page_tag : PageGeometry → VirtualAddress → Tag
+page_tag f a = record { segment = a.segment; page = page_of f a.offset }
 
 -- the virtual page that an effective address names, through a register
 abbrev pub tag_at : PageGeometry → SegmentRegister → ℕ → Tag

@@ -3,7 +3,7 @@ ghost use Rattle.paging.specs.Numbers.{numbers_of};
 ghost use Rattle.paging.specs.Plan.{storage_bytes};
 ghost use Rattle.unit_state.specs.Registers.{NarrowIds};
 ghost use Rattle.unit_state.specs.State.{with_buffers};
-ghost use Rattle.unit_state.specs.Translation.{located, buffers_after, protection_refusal, place_at, translated, translated_state};
+ghost use Rattle.unit_state.specs.Translation.{located, buffers_after, protection_refusal, page_tag, place_at, translated, translated_state};
 
 use crate::answer::Fault;
 use crate::state::UnitState;
@@ -35,6 +35,16 @@ fn refusal_in(register: SegmentRegister) -> Refusal
         Refusal::LockRefused
     } else {
         Refusal::ProtectionRefused
+    }
+}
+
+// The virtual page that an address lies in.
+pub fn virtual_page<F: PageForm>(address: VirtualAddress) -> Tag
+    ensures { result ≡ page_tag F.PageForm.sizes address }
+{
+    Tag {
+        segment: address.segment,
+        page: address.page_number::<F>(),
     }
 }
 
@@ -113,10 +123,7 @@ impl UnitState {
             segment: register.segment,
             offset: address.offset(),
         };
-        let tag = Tag {
-            segment: virtual_address.segment,
-            page: virtual_address.page_number::<F>(),
-        };
+        let tag = virtual_page::<F>(virtual_address);
         let located = self.locate(storage, plan, tag)?;
         let place = place_in::<F>(located, virtual_address);
         let access_permitted = permits::<F>(

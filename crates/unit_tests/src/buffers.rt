@@ -13,24 +13,24 @@ use storage::words::Storage;
 use unit_state::answer::Compared;
 
 // A virtual page: the register that its segment is in, its page number, and the entry of the table that holds it.
-type Place = (u32, u32, u16);
+pub(crate) type Place = (u32, u32, u16);
 
 // Pages of class 5: the lowest four bits of the page number are 5. Register n has segment ID n. The anchors, 1 XOR 5 = 4, 2
 // XOR 5 = 7, 3 XOR 15 = 16 and 4 XOR 25 = 21 (hexadecimal), are 4, 7, 22 and 1 with 32 entries, and 4, 7, 6 and 1 with 16. So
 // each chain has one entry, and a walk compares just that.
-const A: Place = (1, 0x05, 8);
+pub(crate) const A: Place = (1, 0x05, 8);
 
-const B: Place = (2, 0x05, 9);
+pub(crate) const B: Place = (2, 0x05, 9);
 
-const C: Place = (3, 0x15, 10);
+pub(crate) const C: Place = (3, 0x15, 10);
 
 const D: Place = (4, 0x25, 11);
 
 // A page of class 6, with anchor 8 XOR 6 = 14.
-const OTHER_CLASS: Place = (8, 0x06, 12);
+pub(crate) const OTHER_CLASS: Place = (8, 0x06, 12);
 
 // A unit just powered on, and the table. A permits only loads (key 11), the others all.
-fn unit_and_table<F: PageForm + Copy, S: Storage>(
+pub(crate) fn unit_and_table<F: PageForm + Copy, S: Storage>(
     rt: &impl Abort,
     form: F,
     storage: &mut S,
@@ -51,13 +51,13 @@ fn unit_and_table<F: PageForm + Copy, S: Storage>(
 }
 
 // What the walk to a page compares.
-fn miss(place: Place) -> Compared {
+pub(crate) fn miss(place: Place) -> Compared {
     let (_, _, entry) = place;
     first_is(entry)
 }
 
 // Loads from each page. Beside it stands whether it hits, and so compares nothing; the pages hold zeros.
-fn loads<F: PageForm, S: Storage>(
+pub(crate) fn loads<F: PageForm, S: Storage>(
     rt: &impl Abort,
     unit: &mut MemoryUnit<F>,
     storage: &mut S,
@@ -141,7 +141,7 @@ fn a_class_filled_and_refilled(rt: HostRuntime) -> Result<(), Fail> {
 }
 
 // Stores to A, which protection refuses with 13 on a hit as after a walk.
-fn refused_at_a<F: PageForm, S: Storage>(
+pub(crate) fn refused_at_a<F: PageForm, S: Storage>(
     rt: &impl Abort,
     unit: &mut MemoryUnit<F>,
     storage: &mut S,

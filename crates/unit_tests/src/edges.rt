@@ -7,6 +7,7 @@ use lanes::width::Width;
 use mmu::unit::MemoryUnit;
 use paging::address::EffectiveAddress;
 use paging::form::{Form2K, Form4K, PageForm};
+use std::alloc::Global;
 use std::process::Abort;
 use std::test::Fail;
 use storage::words::{ReadStorage, Storage};
@@ -199,34 +200,81 @@ fn the_lowest_and_the_highest_address(rt: HostRuntime) -> Result<(), Fail> {
     lowest_and_highest(&rt, Form4K, &mut RamBoard::new(&mut bytes), 0xffff, 1023)
 }
 
-// 16 MiB are 8,192 pages of 2,048 bytes. With base 1 the table starts at byte 16 * 8,192, which is word 32,768. Page 1ABCD of
-// segment ABC, whose anchor is 1A171 mod 2000 = 171 (hexadecimal), lies in the last real page, which starts at word 8,191 *
-// 512 = 4,193,792 and ends with word 4,194,303. Page 1A171 of segment 0, with the same anchor, stands in front of it.
-#[test]
-fn the_last_page_of_the_largest_storage(rt: HostRuntime) -> Result<(), Fail> {
-    let mut bytes = vec![in rt.alloc(); 0u8; 16_777_216]?;
+// The last page of a storage of 16 MiB: its table, its number, its first word, the page number that segment ABC has it under, and
+// that of segment 0 with the same anchor, which stands in front of it; and the length of a page.
+#[derive(Clone, Copy)]
+struct LastPage {
+    table: Table,
+    number: u16,
+    first_word: u32,
+    page: u32,
+    in_front: u32,
+    length: u32,
+}
+
+fn stores_in_the_last_page<F: PageForm + Copy>(
+    rt: &impl Abort,
+    heap: Global,
+    form: F,
+    case: LastPage,
+) -> Result<(), Fail> {
+    let mut bytes = vec![in heap; 0u8; 16_777_216]?;
     let mut board = RamBoard::new(&mut bytes);
-    let table = Table {
-        start: 32768,
-        entries: 8192,
-    };
     let pages = [
-        (8191, keyed(0xabc, 0x1_abcd, 2)),
-        (17, keyed(0, 0x1_a171, 2)),
+        (case.number, keyed(0xabc, case.page, 2)),
+        (17, keyed(0, case.in_front, 2)),
     ];
-    put_table::<Form2K, RamBoard>(&rt, &mut board, table, &pages)?;
-    let mut unit = unit_of(Form2K, 24, 1)?;
+    put_table::<F, RamBoard>(rt, &mut board, case.table, &pages)?;
+    let mut unit = unit_of(form, 24, 1)?;
     unit.write_segment(10, ordinary(0xabc, true))?;
-    let first = at::<Form2K>(10, 0x1_abcd, 1);
-    let last = at::<Form2K>(10, 0x1_abcd, 2047);
+    let first = at::<F>(10, case.page, 1);
+    let last = at::<F>(10, case.page, case.length.wrapping_sub(1));
     let stored = unit.store(&mut board, first, Width::Byte, 0x81);
-    assert_eq!(rt; stored, accepted(0, up_to(2, 8191)));
+    assert_eq!(rt; stored, accepted(0, up_to(2, case.number)));
     let stored = unit.store(&mut board, last, Width::Word, 0x9abc_def0);
     assert_eq!(rt; stored, accepted(0, NOTHING));
-    assert_eq!(rt; board.read(4_193_792), Ok(0x0081_0000));
+    assert_eq!(rt; board.read(case.first_word), Ok(0x0081_0000));
     assert_eq!(rt; board.read(4_194_303), Ok(0x9abc_def0));
     let loaded = unit.load(&board, last, Width::Halfword);
     assert_eq!(rt; loaded, accepted(0xdef0, NOTHING));
-    only_marked(&rt, &unit, 8192, &[(8191, STORED)]);
+    only_marked(
+        rt,
+        &unit,
+        case.table.entries,
+        &[(u32::from(case.number), STORED)],
+    );
     Ok(())
+}
+
+// 16 MiB are 8,192 pages of 2,048 bytes. With base 1 the table starts at byte 16 * 8,192, which is word 32,768. Page 1ABCD of
+// segment ABC, whose anchor is 1A171 mod 2000 = 171 (hexadecimal), lies in the last real page, which starts at word 8,191 *
+// 512 = 4,193,792 and ends with word 4,194,303. Page 1A171 of segment 0 has the same anchor. They are 4,096 pages of 4,096
+// bytes: the table starts at byte 16 * 4,096, which is word 16,384; page ABCD of segment ABC has anchor A171 mod 1000 = 171, and
+// the last real page starts at word 4,095 * 1,024 = 4,193,280.
+#[test]
+fn the_last_page_of_the_largest_storage(rt: HostRuntime) -> Result<(), Fail> {
+    let of_2k = LastPage {
+        table: Table {
+            start: 32768,
+            entries: 8192,
+        },
+        number: 8191,
+        first_word: 4_193_792,
+        page: 0x1_abcd,
+        in_front: 0x1_a171,
+        length: 2048,
+    };
+    let of_4k = LastPage {
+        table: Table {
+            start: 16384,
+            entries: 4096,
+        },
+        number: 4095,
+        first_word: 4_193_280,
+        page: 0xabcd,
+        in_front: 0xa171,
+        length: 4096,
+    };
+    stores_in_the_last_page(&rt, rt.alloc(), Form2K, of_2k)?;
+    stores_in_the_last_page(&rt, rt.alloc(), Form4K, of_4k)
 }

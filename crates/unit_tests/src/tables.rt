@@ -91,7 +91,7 @@ pub(crate) fn put_link<S: Storage>(
 }
 
 // Puts a page in front of its chain, which begins at anchor (segment ID XOR page number) mod the count of entries.
-fn put_page<F: PageForm, S: Storage>(
+pub(crate) fn put_page<F: PageForm, S: Storage>(
     rt: &impl Abort,
     storage: &mut S,
     table: Table,

@@ -1,4 +1,6 @@
 use Rattle.std.proofs.Common.{sym, ◌∙◌, arith}
+use Rattle.paging.specs.Numbers.{numbers_of}
+use Rattle.page_table.specs.Search.{query_of}
 use Rattle.paging.proofs.Pages.{pages_bounded}
 use Rattle.page_table.proofs.Alike.{searched_alike}
 use Rattle.page_table.proofs.pairs.find_in_both.Goals as goal
@@ -10,4 +12,4 @@ returns-clause-alike g c =
     let form = g.met.F.PageForm in
     let plan = c.args.plan.now in
     let pages = pages_bounded g.F.PageForm.sizes plan.exponent form.wide form.whole plan.large plan.small in
-    λ same. c.find_page.ensures.is ∙ searched_alike g.F.PageForm.sizes _ _ _ (omega (arith, pages.0)) same ∙ sym c.find_page-2.ensures.is
+    λ same. c.find_page.ensures.is ∙ searched_alike g.F.PageForm.sizes (g.S.ReadStorage.words c.args.first.now) (g.T.ReadStorage.words c.args.second.now) (query_of (numbers_of plan) c.args.long_stop c.args.tag) (omega (arith, pages.0)) same ∙ sym c.find_page-2.ensures.is
