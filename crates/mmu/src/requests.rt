@@ -34,7 +34,8 @@ impl<F: PageForm> MemoryUnit<F> {
         answer
     }
 
-    // Stores by effective address.
+    // Stores by effective address. Always inlined: a caller that stores in one width then runs the part of that width alone.
+    #[inline(always)]
     #[tactic(auto, unfolding(unit_state::specs::Requests::store_answer, unit_state::specs::Requests::after_store, unit_state::specs::Requests::store_words))]
     pub fn store<S: Storage>(
         &mut self,

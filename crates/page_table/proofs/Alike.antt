@@ -103,7 +103,7 @@ ahead_alike f ws vs q i n last alike h =
     entry_alike gives ws vs q i alike h
 
 -- walks by turns that are alike at each entry of the table
-chain_alike :
+pub chain_alike :
     {E : Type 0} (reached : ℕ → Option ℕ → Option ℕ) (turn other : ℕ → ℕ → Option ℕ → Turn E) (q : Query) →
     ((i n : ℕ) (last : Option ℕ) → i < q.entries → turn i n last ≡ other i n last) →
     ((i n : ℕ) (last : Option ℕ) → Going q (n + 1) (other i n last)) →
@@ -115,6 +115,15 @@ chain_alike reached turn other q same going zero i n last h = refl
 chain_alike reached turn other q same going (suc fuel) i n last h =
     ap (λ t. gone_on t (λ next. chain reached turn q fuel next (n + 1) (Some i))) (same i n last h)
     ∙ gone_on_alike q (n + 1) (other i n last) _ _ (going i n last) (λ next low. chain_alike reached turn other q same going fuel next (n + 1) (Some i) low)
+
+-- walks in two tables that are alike
+pub walked_alike :
+    (f : PageGeometry) (ws vs : List ℕ) (q : Query) (fuel i n : ℕ) (last : Option ℕ) →
+    AlikeTables q ws vs →
+    i < q.entries →
+    chain before (turned f ws q) q fuel i n last ≡ chain before (turned f vs q) q fuel i n last
+walked_alike f ws vs q fuel i n last alike h =
+    chain_alike before (turned f ws q) (turned f vs q) q (λ i n last h. turned_alike f ws vs q i n last alike h) (turned_going f vs q) fuel i n last h
 
 cond_alike : {X : Type 0} (b : Bool) (x y z : X) → (b ≡ true → x ≡ y) → cond b x z ≡ cond b y z
 cond_alike true x y z h = h refl

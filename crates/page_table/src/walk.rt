@@ -66,4 +66,4 @@ pub struct Trace {
 }
 
 // What comes of one comparison: what the walk found, or the next entry.
-pub(crate) type Turn<E> = Result<ControlFlow<E, u16>, Fault>;
+pub type Turn<E> = Result<ControlFlow<E, u16>, Fault>;

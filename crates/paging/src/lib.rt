@@ -2,6 +2,7 @@
 
 pub mod address;
 pub mod base;
+pub mod bounded;
 pub mod draft;
 pub mod form;
 pub mod geometry;

@@ -1,5 +1,5 @@
 -- What a check of an image gives.
-use Rattle.std.specs.Prelude.{◌≡◌, ℕ, ◌<◌, List, length, vec_items, slice_index_or, slice_set}
+use Rattle.std.specs.Prelude.{◌≡◌, ◌≢◌, ◌⊎◌, ℕ, ◌<◌, List, length, vec_items, slice_index_or, slice_set}
 use Rattle.paging.specs.declared.geometry.PageGeometry.{PageGeometry}
 use Rattle.paging.specs.declared.draft.Draft.{Draft}
 use Rattle.paging.specs.Numbers.{drafted}
@@ -9,6 +9,8 @@ use Rattle.unit_state.specs.declared.state.UnitState.{UnitState}
 use Rattle.unit_state.specs.State.{no_mark, powered_on, with_segments}
 use Rattle.unit_state.specs.Marks.{mark_of}
 use Rattle.survey.specs.declared.findings.Findings.{Findings}
+use Rattle.survey.specs.declared.trouble.Trouble.{Trouble}
+use Rattle.survey.specs.declared.trouble.Trouble.TheVariants.{NoValue}
 use Rattle.survey_image.specs.declared.marker.Marker.{Marker}
 use Rattle.survey_image.specs.declared.marker.Site.{Site}
 use Rattle.survey.specs.Calls.{read_write, read_only}
@@ -18,6 +20,14 @@ use Rattle.survey.specs.Markers.{sites_used, AllRead}
 abbrev pub prepared : UnitState
 prepared =
     with_segments powered_on (slice_set (slice_set powered_on.segments 1 read_write) 2 read_only)
+
+-- a check stops for want of memory or by a rule that refuses, and never for a reply without a value
+abbrev pub StopsCheck : Trouble → Type 0
+StopsCheck trouble = trouble ≢ NoValue
+
+-- on a board of its own a check stops so, or as the check says that it may
+abbrev pub StopsOnBoard : (Trouble → Type 0) → Trouble → Type 0
+StopsOnBoard Stops trouble = StopsCheck trouble ⊎ Stops trouble
 
 -- the marks of all pages
 abbrev pub AllMarks : ℕ → UnitState → List PageMark → Type 0

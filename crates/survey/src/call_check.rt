@@ -1,6 +1,6 @@
 ghost use Rattle.std.specs.Prelude.{◌≡◌, IfOk};
 ghost use Rattle.runs.specs.Fold.{replies_from, state_from};
-ghost use Rattle.survey.specs.Check.{prepared, Checked};
+ghost use Rattle.survey.specs.Check.{prepared, Checked, StopsCheck};
 
 use crate::board_check::BoardCheck;
 use crate::findings::Findings;
@@ -50,13 +50,16 @@ impl<'a> BoardCheck for CallCheck<'a> {
 
     ghost left = { λ plan ws check. state_from plan ws prepared check.calls.now };
 
+    ghost Stops = { StopsCheck };
+
     fn check_storage<F: PageForm + Drop, S: Storage>(
         &self,
         heap: Global,
         draft: Draft<F>,
         storage: &mut S,
     ) -> Result<(Findings<Reply>, Draft<F>), Trouble> {
-        let mut unit = MemoryUnit::power_on(draft.settle()?);
+        let plan = draft.settle()?;
+        let mut unit = MemoryUnit::power_on(plan);
         write_registers(&mut unit, &REGISTERS);
         let found = run(heap, &mut unit, storage, self.calls)?;
         let pages = page_marks(heap, &unit)?;

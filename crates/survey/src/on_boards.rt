@@ -1,9 +1,9 @@
 #![tactic(auto, using(crate::proofs::Failing::failing))]
 
-ghost use Rattle.std.specs.Prelude.{◌≡◌, IfOk, OnOk};
+ghost use Rattle.std.specs.Prelude.{◌≡◌, IfOk, IfErr, OnOk};
 ghost use Rattle.paging.specs.Numbers.{drafted};
 ghost use Rattle.boards.specs.Ram.{ram_words};
-ghost use Rattle.survey.specs.Check.{Checked};
+ghost use Rattle.survey.specs.Check.{Checked, StopsCheck, StopsOnBoard};
 
 use crate::board_check::BoardCheck;
 use crate::findings::Findings;
@@ -31,6 +31,7 @@ pub const SHUFFLED: [u16; 32] = [
 pub fn lay_out<A: ReadStorage, B: Storage>(source: &A, board: &mut B) -> Result<(), Trouble>
     ensures after { OnOk result (B.ReadStorage.words board.new ≡ A.ReadStorage.words source.now) }
     ensures lenders { B.Storage.lenders board.new ≡ B.Storage.lenders board.old }
+    ensures trouble { IfErr result StopsCheck }
 {
     if source.count() != board.count() {
         return Err(Trouble::Refused(Refusal::SizeDiffers));
@@ -51,7 +52,8 @@ fn on_board<F: PageForm + Drop, S: Storage, C: BoardCheck>(
     board: &mut S,
     check: &C,
 ) -> Result<(Findings<C::Item>, Draft<F>), Trouble>
-    ensures { IfOk result (Checked F.PageForm.sizes draft (C.Found (drafted F.PageForm.sizes draft) (ram_words image.old) check.now) (C.left (drafted F.PageForm.sizes draft) (ram_words image.old) check.now)) }
+    ensures checked { IfOk result (Checked F.PageForm.sizes draft (C.Found (drafted F.PageForm.sizes draft) (ram_words image.old) check.now) (C.left (drafted F.PageForm.sizes draft) (ram_words image.old) check.now)) }
+    ensures trouble { IfErr result (StopsOnBoard C.Stops) }
 {
     lay_out(&RamBoard::new(image), board)?;
     check.check_storage(heap, draft, board)
@@ -64,7 +66,8 @@ pub fn on_ram_board<F: PageForm + Drop, C: BoardCheck>(
     image: &mut [u8],
     check: &C,
 ) -> Result<(Findings<C::Item>, Draft<F>), Trouble>
-    ensures { IfOk result (Checked F.PageForm.sizes draft (C.Found (drafted F.PageForm.sizes draft) (ram_words image.old) check.now) (C.left (drafted F.PageForm.sizes draft) (ram_words image.old) check.now)) }
+    ensures checked { IfOk result (Checked F.PageForm.sizes draft (C.Found (drafted F.PageForm.sizes draft) (ram_words image.old) check.now) (C.left (drafted F.PageForm.sizes draft) (ram_words image.old) check.now)) }
+    ensures trouble { IfErr result (StopsOnBoard C.Stops) }
 {
     let mut copy = vec![in heap; 0u8; IMAGE_BYTES]?;
     let mut board = RamBoard::new(&mut copy);
@@ -79,7 +82,8 @@ pub fn on_interleaved_banks<F: PageForm + Drop, C: BoardCheck>(
     image: &mut [u8],
     check: &C,
 ) -> Result<(Findings<C::Item>, Draft<F>), Trouble>
-    ensures { IfOk result (Checked F.PageForm.sizes draft (C.Found (drafted F.PageForm.sizes draft) (ram_words image.old) check.now) (C.left (drafted F.PageForm.sizes draft) (ram_words image.old) check.now)) }
+    ensures checked { IfOk result (Checked F.PageForm.sizes draft (C.Found (drafted F.PageForm.sizes draft) (ram_words image.old) check.now) (C.left (drafted F.PageForm.sizes draft) (ram_words image.old) check.now)) }
+    ensures trouble { IfErr result (StopsOnBoard C.Stops) }
 {
     let mut even = vec![in heap; 0u8; IMAGE_BYTES / 2]?;
     let mut odd = vec![in heap; 0u8; IMAGE_BYTES / 2]?;
@@ -94,7 +98,8 @@ pub fn on_stacked_banks<F: PageForm + Drop, C: BoardCheck>(
     image: &mut [u8],
     check: &C,
 ) -> Result<(Findings<C::Item>, Draft<F>), Trouble>
-    ensures { IfOk result (Checked F.PageForm.sizes draft (C.Found (drafted F.PageForm.sizes draft) (ram_words image.old) check.now) (C.left (drafted F.PageForm.sizes draft) (ram_words image.old) check.now)) }
+    ensures checked { IfOk result (Checked F.PageForm.sizes draft (C.Found (drafted F.PageForm.sizes draft) (ram_words image.old) check.now) (C.left (drafted F.PageForm.sizes draft) (ram_words image.old) check.now)) }
+    ensures trouble { IfErr result (StopsOnBoard C.Stops) }
 {
     let mut low = vec![in heap; 0u8; IMAGE_BYTES / 2]?;
     let mut high = vec![in heap; 0u8; IMAGE_BYTES / 2]?;
@@ -109,7 +114,8 @@ pub fn on_dump_board<F: PageForm + Drop, C: BoardCheck>(
     image: &mut [u8],
     check: &C,
 ) -> Result<(Findings<C::Item>, Draft<F>), Trouble>
-    ensures { IfOk result (Checked F.PageForm.sizes draft (C.Found (drafted F.PageForm.sizes draft) (ram_words image.old) check.now) (C.left (drafted F.PageForm.sizes draft) (ram_words image.old) check.now)) }
+    ensures checked { IfOk result (Checked F.PageForm.sizes draft (C.Found (drafted F.PageForm.sizes draft) (ram_words image.old) check.now) (C.left (drafted F.PageForm.sizes draft) (ram_words image.old) check.now)) }
+    ensures trouble { IfErr result (StopsOnBoard C.Stops) }
 {
     let mut blocks = vec![in heap; 0u8; IMAGE_BYTES]?;
     let mut board = DumpBoard::new(&mut blocks);

@@ -1,6 +1,6 @@
-ghost use Rattle.std.specs.Prelude.{IfOk};
+ghost use Rattle.std.specs.Prelude.{IfOk, IfErr};
 ghost use Rattle.paging.specs.Plan.{page_count};
-ghost use Rattle.survey.specs.Check.{AllMarks};
+ghost use Rattle.survey.specs.Check.{AllMarks, StopsCheck};
 
 use crate::trouble::Trouble;
 use mmu::unit::MemoryUnit;
@@ -10,7 +10,8 @@ use unit_state::state::PageMark;
 
 // The mark of each real page.
 pub fn page_marks<F: PageForm>(heap: Global, unit: &MemoryUnit<F>) -> Result<Vec<PageMark>, Trouble>
-    ensures { IfOk result (λ v. AllMarks (page_count F.PageForm.sizes unit.now.plan.exponent) unit.now.state v.items) }
+    ensures marks { IfOk result (λ v. AllMarks (page_count F.PageForm.sizes unit.now.plan.exponent) unit.now.state v.items) }
+    ensures trouble { IfErr result StopsCheck }
 {
     let mut marks = Vec::new(heap);
     // over the numbers of the pages, which are what the unit is asked by

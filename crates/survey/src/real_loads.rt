@@ -1,7 +1,8 @@
-ghost use Rattle.std.specs.Prelude.{◌≡◌, Ok, IfOk, OnOk};
+ghost use Rattle.std.specs.Prelude.{◌≡◌, Ok, IfOk, IfErr, OnOk};
 ghost use Rattle.paging.specs.Numbers.{numbers_of};
 ghost use Rattle.lanes.specs.declared.width.Width.TheVariants.{Word};
 ghost use Rattle.mmu.specs.Real.{real_load, after_real_load};
+ghost use Rattle.survey.specs.Check.{StopsCheck};
 ghost use Rattle.survey.specs.Markers.{accepting, marker_read, marker_used, sites_used, AllRead};
 
 use crate::readings::spelled;
@@ -57,6 +58,7 @@ pub fn read_markers<F: PageForm, S: ReadStorage>(
 ) -> Result<Vec<Marker>, Trouble>
     ensures found { IfOk result (λ v. AllRead (numbers_of unit.old.plan) (S.ReadStorage.words storage.now) sites.now v.items) }
     ensures state { OnOk result (unit.new.state ≡ sites_used (numbers_of unit.old.plan) (S.ReadStorage.words storage.now) unit.old.state sites.now) }
+    ensures trouble { IfErr result StopsCheck }
     ensures plan { unit.new.plan ≡ unit.old.plan }
 {
     let mut markers = Vec::new(heap);

@@ -1,8 +1,8 @@
-ghost use Rattle.std.specs.Prelude.{IfOk};
+ghost use Rattle.std.specs.Prelude.{IfOk, IfErr};
 ghost use Rattle.boards.specs.Ram.{ram_words};
 ghost use Rattle.unit_state.specs.State.{powered_on};
 ghost use Rattle.survey.specs.Markers.{sites_used, AllRead};
-ghost use Rattle.survey.specs.Check.{SitesChecked};
+ghost use Rattle.survey.specs.Check.{SitesChecked, StopsCheck};
 
 use crate::board_check::BoardCheck;
 use crate::findings::Findings;
@@ -24,9 +24,11 @@ pub fn check_sites<F: PageForm + Drop, S: ReadStorage>(
     storage: &S,
     sites: &[Site],
 ) -> Result<(Findings<Marker>, Draft<F>), Trouble>
-    ensures { IfOk result (SitesChecked F.PageForm.sizes draft (S.ReadStorage.words storage.now) sites.now) }
+    ensures checked { IfOk result (SitesChecked F.PageForm.sizes draft (S.ReadStorage.words storage.now) sites.now) }
+    ensures trouble { IfErr result StopsCheck }
 {
-    let mut unit = MemoryUnit::power_on(draft.settle()?);
+    let plan = draft.settle()?;
+    let mut unit = MemoryUnit::power_on(plan);
     let found = read_markers(heap, &mut unit, storage, sites)?;
     let pages = page_marks(heap, &unit)?;
     Ok((Findings { found, pages }, unit.end()))
@@ -39,7 +41,8 @@ pub fn check_image<F: PageForm + Drop>(
     image: &mut [u8],
     sites: &[Site],
 ) -> Result<(Findings<Marker>, Draft<F>), Trouble>
-    ensures { IfOk result (SitesChecked F.PageForm.sizes draft (ram_words image.old) sites.now) }
+    ensures checked { IfOk result (SitesChecked F.PageForm.sizes draft (ram_words image.old) sites.now) }
+    ensures trouble { IfErr result StopsCheck }
 {
     check_sites(heap, draft, &RamBoard::new(image), sites)
 }
@@ -56,6 +59,8 @@ impl<'a> BoardCheck for SiteCheck<'a> {
     ghost Found = { λ plan ws check. AllRead plan ws check.sites.now };
 
     ghost left = { λ plan ws check. sites_used plan ws powered_on check.sites.now };
+
+    ghost Stops = { StopsCheck };
 
     fn check_storage<F: PageForm + Drop, S: Storage>(
         &self,

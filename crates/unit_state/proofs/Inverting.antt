@@ -3,6 +3,7 @@ use Rattle.std.proofs.Common.{◌≡◌, ℕ, ◌+◌, ◌*◌, ◌/◌, ◌%◌
 use Rattle.refusals.specs.declared.refusal.Refusal.{Refusal}
 use Rattle.paging.specs.Numbers.{PlanNumbers}
 use Rattle.paging.specs.declared.geometry.PageGeometry.{PageGeometry}
+use Rattle.paging.specs.Plan.{page_count}
 use Rattle.paging.specs.Address.{offset_of, page_of}
 use Rattle.paging.proofs.Pages.{Wide, Whole, page_length, pages_bounded}
 use Rattle.protection.specs.declared.register.SegmentRegister.{SegmentRegister}
@@ -69,7 +70,19 @@ translated_leads plan ws s address t p e = enters (entry_refusal plan.exponent w
     enters None entered place = finds found entered refl place
     enters (Some refusal) entered place = let z : ◌≡◌ {A = ℕ} 0 1 = cc in absurd (omega arith)
 
--- a permitted request leads to one of 8,192 pages, under every settled plan
+-- a permitted request leads to one of 8,192 pages, where there are no more
+pub translated_near :
+    (plan : PlanNumbers) (ws : List ℕ) (s : UnitState) (address : ℕ) (t : AccessType) (p : Place) →
+    page_count plan.form plan.exponent ≤ 8192 →
+    EachNear s.buffers →
+    translated plan ws s address t ≡ Ok p →
+    p.page < 8192
+translated_near plan ws s address t p few near e =
+    let leads = translated_leads plan ws s address t p e in
+    let low = located_near plan ws s (tag_at plan.form (segment_at s address) address) leads.found few near leads.is in
+    subst (λ (x : Place). x.page < 8192) (sym leads.place) low
+
+-- under every settled plan there are no more
 pub place_near :
     (plan : PlanNumbers) (ws : List ℕ) (s : UnitState) (address : ℕ) (t : AccessType) (p : Place) →
     Wide plan.form →
@@ -80,10 +93,7 @@ pub place_near :
     translated plan ws s address t ≡ Ok p →
     p.page < 8192
 place_near plan ws s address t p wide whole large small near e =
-    let few = (pages_bounded plan.form plan.exponent wide whole large small).1 in
-    let leads = translated_leads plan ws s address t p e in
-    let low = located_near plan ws s (tag_at plan.form (segment_at s address) address) leads.found few near leads.is in
-    subst (λ (x : Place). x.page < 8192) (sym leads.place) low
+    translated_near plan ws s address t p (pages_bounded plan.form plan.exponent wide whole large small).1 near e
 
 -- its real address lies in that page
 place_in_page_of :

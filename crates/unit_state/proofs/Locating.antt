@@ -1,5 +1,5 @@
 -- What the look-aside buffers hold, and what is found, stays sound.
-use Rattle.std.proofs.Common.{◌≡◌, ℕ, ◌<◌, ◌≤◌, Bool, List, Some, None, Ok, Err, Option, Result, sym, refl, ap, ◌∙◌, subst, arith}
+use Rattle.std.proofs.Common.{◌≡◌, ℕ, ◌<◌, ◌≤◌, Bool, true, false, List, Some, None, Ok, Err, Option, Result, sym, refl, ap, ◌∙◌, subst, arith}
 use Rattle.refusals.specs.declared.refusal.Refusal.{Refusal}
 use Rattle.paging.specs.Numbers.{PlanNumbers}
 use Rattle.paging.specs.Plan.{page_count}
@@ -10,6 +10,7 @@ use Rattle.page_table.specs.Search.{Outcome, query_of, found_in}
 use Rattle.page_table.specs.Laws.{Well, FoundWell}
 use Rattle.page_table.proofs.Walks.{searched_well}
 use Rattle.paging.specs.declared.address.EffectiveAddress.{EffectiveAddress}
+use Rattle.lanes.specs.declared.width.Width.{Width}
 use Rattle.protection.specs.declared.access_type.AccessType.{AccessType}
 use Rattle.tlb.specs.declared.buffers.Translation.{Translation}
 use Rattle.tlb.specs.Lookup.{hit_of, looked_up, EachUnique, Each, EachNear}
@@ -32,7 +33,7 @@ use Rattle.unit_state.specs.Translation.{
   translated_state,
 }
 use Rattle.unit_state.specs.declared.translation.Place.{Place}
-use Rattle.unit_state.specs.Requests.{used_at, noted_in}
+use Rattle.unit_state.specs.Requests.{load_at, store_at, used_at, noted_in, load_place, used_by_load, store_place, used_by_store}
 use Rattle.unit_state.specs.Sound.{Sound}
 use Rattle.unit_state.proofs.Soundness.{sound_used}
 
@@ -130,7 +131,7 @@ pub located_near :
 located_near plan ws s tag l few near e =
     located-holds (λ t. t.entry < 8192) plan ws s tag l near (found_near plan ws s tag few) e
 
-sound_translated :
+pub sound_translated :
     (plan : PlanNumbers) (ws : List ℕ) (s : UnitState) (address : ℕ) →
     page_count plan.form plan.exponent ≤ 8192 →
     Sound s →
@@ -151,20 +152,39 @@ sound_translated plan ws s address few sound = ways (entry_refusal plan.exponent
           near = buffers_hold (λ t. t.entry < 8192) plan ws s tag sound.near (found_near plan ws s tag few);
         }
 
-sound_used_at :
+pub sound_used_at :
     (s : UnitState) (r : Result Place Fault) (answer : Answer) (store : Bool) → Sound s → Sound (used_at s r answer store)
 sound_used_at s (Ok p) (Ok a) store sound = sound_used s p.page store sound
 sound_used_at s (Ok p) (Err e) store sound = sound
 sound_used_at s (Err x) (Ok a) store sound = sound
 sound_used_at s (Err x) (Err e) store sound = sound
 
-sound_noted :
+pub sound_noted :
     (s : UnitState) (answer : Answer) (address : EffectiveAddress) (t : AccessType) →
     Sound s →
     Sound (noted_in s answer address t)
 sound_noted s (Ok a) address t sound = sound
 sound_noted s (Err e) address t sound =
     record { whole = sound.whole; narrow = sound.narrow; unique = sound.unique; near = sound.near }
+
+-- the unit after a load or a store is sound, where there are no more than 8,192 pages
+pub sound_loaded :
+    (plan : PlanNumbers) (ws : List ℕ) (s : UnitState) (w : Width) (address : EffectiveAddress) →
+    page_count plan.form plan.exponent ≤ 8192 →
+    Sound s →
+    Sound (used_by_load plan ws s w address)
+sound_loaded plan ws s w address few sound =
+    let place = load_place plan ws s address in
+    sound_used_at _ place (load_at ws w place) false (sound_translated plan ws s address.number few sound)
+
+pub sound_stored :
+    (plan : PlanNumbers) (ws : List ℕ) (s : UnitState) (w : Width) (address : EffectiveAddress) (value : ℕ) →
+    page_count plan.form plan.exponent ≤ 8192 →
+    Sound s →
+    Sound (used_by_store plan ws s w address value)
+sound_stored plan ws s w address value few sound =
+    let place = store_place plan ws s address in
+    sound_used_at _ place (store_at ws w value place) true (sound_translated plan ws s address.number few sound)
 
 -- the unit after a request is sound, under every settled plan: the page that it used is marked, and a refusal noted
 pub sound_request :

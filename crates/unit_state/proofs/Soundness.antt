@@ -22,7 +22,7 @@ unfolding used_page
 sound_used s page store sound =
     record { whole = simp length-set sound.whole; narrow = sound.narrow; unique = sound.unique; near = sound.near }
 
-narrow_set :
+pub narrow_set :
     (segments : List SegmentRegister) (n : ℕ) (r : SegmentRegister) →
     r.segment ≤ 4095 →
     NarrowIds segments →

@@ -1,4 +1,5 @@
 use crate::support::{plan_of, unit_of};
+use paging::bounded::BoundedNumber;
 use paging::draft::Draft;
 use paging::form::{Form2K, Form4K, PageForm};
 use std::process::Abort;
@@ -40,6 +41,23 @@ fn settles_at_the_edges<F: PageForm + Copy>(rt: &impl Abort, form: F, highest: u
 fn drafts_settle_at_the_edges(rt: HostRuntime) {
     settles_at_the_edges(&rt, Form2K, 127, 128);
     settles_at_the_edges(&rt, Form4K, 255, 256);
+}
+
+fn bounded<const HIGHEST: u32>(number: u32) -> Option<u32> {
+    match BoundedNumber::<HIGHEST>::new(number) {
+        Some(bounded) => Some(bounded.number()),
+        None => None,
+    }
+}
+
+// A number is there up to the highest, whether or not a page form has that one, and is what it was made from.
+#[test]
+fn bounded_numbers_at_their_highest(rt: HostRuntime) {
+    assert_eq!(rt; bounded::<0>(0), Some(0));
+    assert_eq!(rt; bounded::<0>(1), None);
+    assert_eq!(rt; bounded::<63>(63), Some(63));
+    assert_eq!(rt; bounded::<63>(64), None);
+    assert_eq!(rt; bounded::<0xffff_ffff>(0xffff_ffff), Some(0xffff_ffff));
 }
 
 // Exponents and bases, and where the table starts and how many entries it has.
